@@ -1,0 +1,27 @@
+//! What every other crate stands on: lists, names and lines that contracts see as plain lists, a cursor
+//! over bytes, a counter of steps, and the words that contracts share.
+//!
+//! To the layers above it promises: each of these types is, to a clause, the value that it stands for and
+//! nothing else (no capacity, no pointer, no place in a buffer), and each call says exactly what it does to that
+//! value. Only a call whose `Result` can hold an `AllocError` takes memory, and where it is refused the
+//! value is as before.
+#![tactic(auto)]
+
+mod cursor;
+mod job;
+mod line;
+mod list;
+mod memory;
+mod name;
+mod steps;
+
+pub use cursor::Cursor;
+pub use job::Job;
+pub use line::Line;
+pub use list::List;
+pub use memory::OutOfMemory;
+pub use name::Name;
+pub use steps::Steps;
+
+#[cfg(test)]
+mod tests;
