@@ -1,1 +1,2 @@
 pub mod Place
+pub use Rattle.byteorder.specs.Endian

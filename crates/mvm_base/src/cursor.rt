@@ -1,4 +1,4 @@
-ghost use Rattle.std.specs.Prelude.{◌≡◌, ◌<◌, ◌^◌, length, ◌==◌, Ok, Err, IfOk, MatchResult};
+ghost use Rattle.std.specs.Prelude.{◌≡◌, ◌<◌, ◌+◌, ◌^◌, length, ◌==◌, Ok, Err, IfOk, MatchResult};
 ghost use Rattle.mvm_base.specs.Place.{Place, Takes, run};
 
 use byteorder::{BigEndian, ByteOrder};
@@ -33,7 +33,18 @@ impl<'a> Cursor<'a> {
         Cursor { rest: bytes, at: 0 }
     }
 
-    /// How many bytes were read.
+    /// A cursor before the first of these bytes, which stands at a place of some longer list of bytes.
+    pub fn from_place(bytes: &'a [u8], place: u32) -> Cursor<'a>
+        requires { place + length bytes.now < 2 ^ 32 }
+        ensures { result ≡ record { at = place; rest = bytes.now } }
+    {
+        Cursor {
+            rest: bytes,
+            at: place,
+        }
+    }
+
+    /// The place of the next byte.
     pub fn place(&self) -> u32
         ensures { result ≡ self.now.at }
     {

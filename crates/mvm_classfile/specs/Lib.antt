@@ -1,0 +1,7 @@
+pub mod CodeParts
+pub mod Answers
+pub mod Format
+pub mod Opcodes
+pub mod Pool
+pub mod ClassName
+pub mod File

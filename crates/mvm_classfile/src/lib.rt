@@ -1,0 +1,20 @@
+//! Class files (JVM Specification, chapter 4), as far as this stage reads them.
+//!
+//! To the layers above it promises: [`read_class`] answers `Ok` exactly for the bytes that the grammar
+//! `file` of `specs/File.antt` spells, with the class that they spell, and says of every other input which of the two
+//! faults it has. [`Code::instruction_at`] gives the instruction
+//! that stands at a place of a method's code. No
+//! call keeps a reference to the bytes that it was handed.
+#![tactic(auto)]
+
+mod code;
+mod fault;
+mod instruction;
+mod opcodes;
+mod parts;
+
+pub use code::Code;
+pub use fault::ClassFault;
+pub use instruction::{Arithmetic, Condition, Instruction};
+pub use opcodes::At;
+pub use parts::{ClassFile, Item, Method, Parts, Placed};
