@@ -1,7 +1,7 @@
 ghost use Rattle.std.specs.Prelude.{◌≡◌, ◌↔◌, IsTrue, IfOk};
 ghost use Rattle.std.specs.Str.{bytes_eq};
 
-use std::alloc::AllocError;
+use std::alloc::{AllocError, Global};
 use std::marker::Model;
 
 /// A name or a text of a class file, as its UTF-16 code units (JVM Specification 4.4.7).
@@ -24,6 +24,14 @@ impl Name {
         ensures { result ≡ units.items }
     {
         Name { units }
+    }
+
+    /// The name whose units are the bytes of an ASCII text.
+    pub fn from_ascii(alloc: Global, text: &str) -> Result<Name, AllocError>
+        ensures { IfOk result (λ n. n ≡ text.now) }
+    {
+        let units = text.as_bytes().iter().map(|byte| u16::from(*byte)).collect(alloc)?;
+        Ok(Name { units })
     }
 
     /// The units, in their order.

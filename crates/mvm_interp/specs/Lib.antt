@@ -1,0 +1,4 @@
+pub mod Ends
+pub mod Stack
+pub mod Machine
+pub mod Task
