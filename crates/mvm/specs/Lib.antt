@@ -1,0 +1,4 @@
+pub mod Texts
+pub mod Status
+pub mod Report
+pub mod Refusals

@@ -1,0 +1,18 @@
+-- What a refusal reads as.
+use Rattle.std.specs.Prelude.{ℕ, List, ◌++◌, codes, decimal}
+use Rattle.mvm_classfile.specs.declared.fault.ClassFault.{ClassFault}
+use Rattle.mvm_classfile.specs.declared.fault.ClassFault.TheVariants.{Magic, Unsupported, OutOfMemory}
+use Rattle.mvm.specs.declared.refusal.Refusal.{Refusal}
+use Rattle.mvm.specs.declared.refusal.Refusal.TheVariants.{Usage, ReadFault, InputTooLong, Class, WriteFault}
+
+abbrev pub class_fault_text : ClassFault → List ℕ
+class_fault_text Magic = codes "class: magic"
+class_fault_text (Unsupported place) = codes "class: unsupported " ++ decimal place
+class_fault_text OutOfMemory = codes "out of memory"
+
+unfoldable pub refusal_text_of : Refusal → List ℕ
+refusal_text_of Usage = codes "usage: mvm run [--workers N] [--quantum Q] [--statics] | asm | dump | gen N"
+refusal_text_of ReadFault = codes "read failed"
+refusal_text_of InputTooLong = codes "input too long"
+refusal_text_of (Class fault) = class_fault_text fault
+refusal_text_of (WriteFault count) = codes "write failed after " ++ decimal count ++ codes " bytes"
