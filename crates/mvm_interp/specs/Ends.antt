@@ -1,5 +1,5 @@
 -- How an isolate ends.
-use Rattle.std.specs.Prelude.{ℕ, pos, List, [], ◌∷◌, Option, Some, None, codes}
+use Rattle.std.specs.Prelude.{pos, List, [], ◌∷◌, Option, Some, None, codes}
 use Rattle.mvm_interp.specs.declared.ending.Ending.{Ending}
 use Rattle.mvm_interp.specs.declared.ending.Ending.TheVariants.{Returned, VerifyError, StepLimit, OutputLimit}
 use Rattle.mvm_interp.specs.declared.ending.End.{End}

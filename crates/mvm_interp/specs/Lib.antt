@@ -2,3 +2,4 @@ pub mod Ends
 pub mod Stack
 pub mod Machine
 pub mod Task
+pub mod Run

@@ -5,6 +5,7 @@
 //! output. [`OneTask::finish`] gives the output, the uncaught exceptions and the end of that machine's state.
 #![tactic(auto)]
 
+mod attempts;
 mod block;
 mod ending;
 mod execute;
@@ -13,6 +14,10 @@ mod operands;
 mod output;
 mod task;
 
+pub use attempts::run;
 pub use block::{Block, Uncaught};
 pub use ending::{End, LimitKind, Stepped};
 pub use task::OneTask;
+
+#[cfg(test)]
+mod tests;

@@ -1,4 +1,4 @@
-ghost use Rattle.std.specs.Prelude.{◌≡◌, ◌≢◌, None, IfOk, Ok};
+ghost use Rattle.std.specs.Prelude.{◌≡◌, ◌≢◌, ◌+◌, ◌≤◌, None, IfOk, Ok};
 ghost use Rattle.mvm_interp.specs.Ends.{stepped_of, uncaught_of};
 ghost use Rattle.mvm_interp.specs.Machine.{began, step, ended};
 ghost use Rattle.mvm_interp.specs.Task.{IsBlockOf};
@@ -73,6 +73,8 @@ impl OneTask {
         requires { self.old.state.ending ≡ None }
         ensures machine { self.new ≡ record self.old { state = step self.old.code self.old.state } }
         ensures answer { result ≡ Ok (stepped_of self.new.state.ending) }
+        ensures counted { self.new.state.ending ≡ None → self.new.state.steps ≡ self.old.state.steps + 1 }
+        ensures within { self.new.state.steps ≤ 100000000 }
     {
         if self.steps == STEP_LIMIT {
             return Ok(self.end(Ending::StepLimit));
