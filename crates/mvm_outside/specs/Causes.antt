@@ -1,0 +1,16 @@
+-- What the counts of an object outside tell of a call.
+use Rattle.std.specs.Prelude.{◌≡◌, ℕ, ◌+◌, ◌-◌, ◌^◌, ◌<◌, ◌≤◌, min, length, List, Result, Ok, OnErr}
+
+-- a count rose, or stands at the last value of a u64
+abbrev pub Rose : ℕ → ℕ → Type 0
+Rose before now = min (before + 1) (2 ^ 64 - 1) ≤ now
+
+-- the count never falls, and rose where the call answered an error
+pub record HasCause {T E : Type 0} (before now : ℕ) (result : Result T E) : Type 0 where
+  pub later : before ≤ now
+  pub failed : OnErr result (Rose before now)
+
+-- the count never falls, and rose where a write took nothing of a piece that is not empty
+pub record CountsIdle {E : Type 0} (before now : ℕ) (result : Result ℕ E) (piece : List ℕ) : Type 0 where
+  pub later : before ≤ now
+  pub idle : result ≡ Ok 0 → 0 < length piece → Rose before now
