@@ -1,5 +1,5 @@
 -- What the objects over memory are to a clause.
-use Rattle.std.specs.Prelude.{ℕ, ◌+◌, ◌-◌, ◌^◌, min, Bool, List, Result, is_err, nat_eq, if◌then◌else◌}
+use Rattle.std.specs.Prelude.{ℕ, ◌+◌, ◌-◌, ◌^◌, min, Bool, List, nat_eq}
 use Rattle.std.specs.List.{list_any}
 use Rattle.mvm_outside.specs.declared.rows.FileRow.{FileRow}
 

@@ -28,3 +28,6 @@ pub use real::{FolderStore, ReadSource, WriteSink};
 pub use rows::FileRow;
 pub use traits::{Failed, Gate, MOST_FILE_BYTES, NoGate, Sink, Source, Store, StoreFault};
 pub use whole::{ReadRefusal, read_all, write_all};
+
+#[cfg(test)]
+mod tests;

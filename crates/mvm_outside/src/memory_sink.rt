@@ -70,9 +70,7 @@ impl Sink for MemorySink {
         ensures fails { IsTrue (is_failing self.old.failing self.old.calls) → IsErr result }
         ensures takes { IfOk result (λ count. count ≡ min (length piece.now) self.old.most) }
         ensures calm { IsOk result → self.new.faults ≡ self.old.faults }
-        ensures calls { self.new.calls ≡ next_count self.old.calls }
-        ensures failing { self.new.failing ≡ self.old.failing }
-        ensures most { self.new.most ≡ self.old.most }
+        ensures others { self.new ≡ record self.old { taken = self.new.taken; calls = next_count self.old.calls; faults = self.new.faults; idle = self.new.idle } }
     {
         let call = self.calls;
         self.calls = call.saturating_add(1);

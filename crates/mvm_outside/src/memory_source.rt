@@ -1,4 +1,4 @@
-ghost use Rattle.std.specs.Prelude.{◌≡◌, ◌<◌, ◌≤◌, ◌++◌, [], length, take, is_err, Some, if◌then◌else◌};
+ghost use Rattle.std.specs.Prelude.{◌≡◌, ◌<◌, ◌≤◌, ◌++◌, [], length, take, is_err, IsOk, Some, if◌then◌else◌};
 ghost use Rattle.std.specs.Io.{ReadsAtMost};
 ghost use Rattle.std.specs.Io.KnownBytes.{ReadConsumes};
 ghost use Rattle.mvm_outside.specs.Causes.{HasCause};
@@ -102,8 +102,7 @@ impl Source for MemorySource {
         ensures cause { HasCause self.old.faults self.new.faults result }
         ensures fails { is_err result ≡ is_failing self.old.failing self.old.calls }
         ensures faults { self.new.faults ≡ (if is_err result then next_count self.old.faults else self.old.faults) }
-        ensures calls { self.new.calls ≡ next_count self.old.calls }
-        ensures failing { self.new.failing ≡ self.old.failing }
+        ensures others { self.new ≡ record self.old { left = self.new.left; calls = next_count self.old.calls; faults = self.new.faults } }
     {
         let call = self.calls;
         self.calls = call.saturating_add(1);
@@ -146,7 +145,13 @@ impl Source for NeverSource {
 
     ghost faults = { λ _. 0 };
 
-    fn read(&mut self, buf: &mut [u8]) -> Result<usize, Failed> {
+    /// Never fails.
+    fn read(&mut self, buf: &mut [u8]) -> Result<usize, Failed>
+        ensures bound { ReadsAtMost result buf.new }
+        ensures bytes { ReadConsumes (Some self.old) (Some self.new) result buf.new }
+        ensures cause { HasCause 0 0 result }
+        ensures never { IsOk result }
+    {
         Ok(self.tape.read(buf))
     }
 }

@@ -1,4 +1,4 @@
-ghost use Rattle.std.specs.Prelude.{◌≡◌, ◌≢◌, ◌≤◌, ◌↔◌, length, IsTrue, IfOk, IfSome, Some, if◌then◌else◌};
+ghost use Rattle.std.specs.Prelude.{◌≡◌, ◌≢◌, ◌≤◌, length, IsTrue, IfOk, IfSome, Some, if◌then◌else◌};
 ghost use Rattle.std.specs.Option.{option_copied};
 ghost use Rattle.mvm_outside.specs.Causes.{Rose};
 ghost use Rattle.mvm_outside.specs.Files.{HasFile, HasNoFile, HasLongFile, file_of};
@@ -77,7 +77,20 @@ impl Store for MemoryStore {
 
     ghost faults = { λ s. s.faults };
 
-    fn read_file(&mut self, alloc: Global, name: &Line) -> Result<Option<List<u8>>, StoreFault> {
+    /// Fails exactly where the number of the call is one of those that fail, and counts a fault exactly there.
+    fn read_file(&mut self, alloc: Global, name: &Line) -> Result<Option<List<u8>>, StoreFault>
+        ensures kept { Some (file_of self.new.rows) ≡ Some (file_of self.old.rows) }
+        ensures found { IfOk result (λ file. IfSome file (λ bytes. HasFile (Some (file_of self.old.rows)) name.now bytes)) }
+        ensures within { IfOk result (λ file. IfSome file (λ bytes. length bytes ≤ MOST_FILE_BYTES)) }
+        ensures missing { result ≡ Ok None → HasNoFile (Some (file_of self.old.rows)) name.now }
+        ensures too_long { result ≡ Err StoreFault.TooLong → HasLongFile (Some (file_of self.old.rows)) name.now MOST_FILE_BYTES }
+        ensures later { self.old.faults ≤ self.new.faults }
+        ensures failed { result ≡ Err StoreFault.Failed → Rose self.old.faults self.new.faults }
+        ensures fails { IsTrue (is_failing self.old.failing self.old.calls) → result ≡ Err StoreFault.Failed }
+        ensures fails_only { result ≡ Err StoreFault.Failed → IsTrue (is_failing self.old.failing self.old.calls) }
+        ensures faults { self.new.faults ≡ (if is_failing self.old.failing self.old.calls then next_count self.old.faults else self.old.faults) }
+        ensures others { self.new ≡ record self.old { calls = next_count self.old.calls; faults = self.new.faults } }
+    {
         let call = self.calls;
         self.calls = call.saturating_add(1);
         if self.failing.as_slice().contains(&call) {
@@ -118,7 +131,18 @@ impl Store for NeverStore {
 
     ghost faults = { λ _. 0 };
 
-    fn read_file(&mut self, alloc: Global, name: &Line) -> Result<Option<List<u8>>, StoreFault> {
+    /// Never fails.
+    fn read_file(&mut self, alloc: Global, name: &Line) -> Result<Option<List<u8>>, StoreFault>
+        ensures kept { Some (file_of self.new) ≡ Some (file_of self.old) }
+        ensures found { IfOk result (λ file. IfSome file (λ bytes. HasFile (Some (file_of self.old)) name.now bytes)) }
+        ensures within { IfOk result (λ file. IfSome file (λ bytes. length bytes ≤ MOST_FILE_BYTES)) }
+        ensures missing { result ≡ Ok None → HasNoFile (Some (file_of self.old)) name.now }
+        ensures too_long { result ≡ Err StoreFault.TooLong → HasLongFile (Some (file_of self.old)) name.now MOST_FILE_BYTES }
+        ensures later { 0 ≤ 0 }
+        ensures failed { result ≡ Err StoreFault.Failed → Rose 0 0 }
+        ensures never { result ≢ Err StoreFault.Failed }
+        ensures same { self.new ≡ self.old }
+    {
         copy_file(alloc, self.rows.as_slice(), name)
     }
 }

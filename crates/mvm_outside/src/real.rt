@@ -17,7 +17,10 @@ pub struct ReadSource<R> {
 
 impl<R: Read> ReadSource<R> {
     /// A source of what the reader still gives.
-    pub fn new(reader: R) -> ReadSource<R> {
+    pub fn new(reader: R) -> ReadSource<R>
+        ensures left { ⟦<ReadSource<R> as Source>⟧.left result ≡ R.remaining reader }
+        ensures faults { ⟦<ReadSource<R> as Source>⟧.faults result ≡ 0 }
+    {
         ReadSource { reader, faults: 0 }
     }
 }
@@ -48,7 +51,11 @@ pub struct WriteSink<W> {
 
 impl<W: Write> WriteSink<W> {
     /// A sink into the writer.
-    pub fn new(writer: W) -> WriteSink<W> {
+    pub fn new(writer: W) -> WriteSink<W>
+        ensures taken { ⟦<WriteSink<W> as Sink>⟧.taken result ≡ W.contents writer }
+        ensures faults { ⟦<WriteSink<W> as Sink>⟧.faults result ≡ 0 }
+        ensures idle { ⟦<WriteSink<W> as Sink>⟧.idle result ≡ 0 }
+    {
         WriteSink {
             writer,
             faults: 0,
@@ -89,7 +96,9 @@ pub struct FolderStore<'a, R> {
 
 impl<'a, R: Files> FolderStore<'a, R> {
     /// The store of the folder that is current for this runtime.
-    pub fn new(runtime: &'a R) -> FolderStore<'a, R> {
+    pub fn new(runtime: &'a R) -> FolderStore<'a, R>
+        ensures { ⟦<FolderStore<'a, R> as Store>⟧.faults result ≡ 0 }
+    {
         FolderStore { runtime, faults: 0 }
     }
 }
