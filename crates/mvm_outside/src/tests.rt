@@ -11,11 +11,35 @@ fn line(alloc: Global, words: &str) -> Result<Line, AllocError> {
     Ok(line)
 }
 
-/// A file of so many bytes of one kind.
-fn file(alloc: Global, name: &str, byte: u8, length: usize) -> Result<FileRow, AllocError> {
+/// A file of so many bytes.
+fn file(alloc: Global, name: &str, length: usize) -> Result<FileRow, AllocError> {
     Ok(FileRow {
         name: line(alloc, name)?,
-        bytes: List::from_vec(vec![in alloc; byte; length]?),
+        bytes: List::from_vec(vec![in alloc; 7; length]?),
+    })
+}
+
+/// Two files of one name, a file that is a byte too long, and a file of the greatest length.
+fn files(alloc: Global) -> Result<List<FileRow>, AllocError> {
+    let mut files = List::new(alloc);
+    files.push(file(alloc, "A.class", 3)?)?;
+    files.push(file(alloc, "A.class", 4)?)?;
+    files.push(file(alloc, "Long.class", 1_048_577)?)?;
+    files.push(file(alloc, "Most.class", 1_048_576)?)?;
+    Ok(files)
+}
+
+/// What a store answers at a name, with the number of bytes in place of the bytes.
+fn length_of<S: Store>(
+    store: &mut S,
+    alloc: Global,
+    name: &str,
+) -> Result<Result<Option<usize>, StoreFault>, AllocError> {
+    let name = line(alloc, name)?;
+    Ok(match store.read_file(alloc, &name) {
+        Ok(Some(bytes)) => Ok(Some(bytes.len())),
+        Ok(None) => Ok(None),
+        Err(fault) => Err(fault),
     })
 }
 
@@ -65,29 +89,23 @@ fn sinks_take_all_or_say_how_much(rt: HostRuntime) -> Result<(), Fail> {
 #[test]
 fn stores_find_files_by_name(rt: HostRuntime) -> Result<(), Fail> {
     let alloc = rt.alloc();
-    let mut files = List::new(alloc);
-    files.push(file(alloc, "A.class", 1, 3)?)?;
-    files.push(file(alloc, "A.class", 2, 4)?)?;
-    files.push(file(alloc, "Long.class", 3, 1_048_577)?)?;
-    files.push(file(alloc, "Most.class", 4, 1_048_576)?)?;
-    let mut store = MemoryStore::new(files, List::from_slice(alloc, &[1])?);
-    let name = line(alloc, "A.class")?;
-    let found = store
-        .read_file(alloc, &name)
-        .ok()
-        .flatten()
-        .ok_or("A.class")?;
-    assert_eq!(rt; found.as_slice(), [1u8, 1, 1].as_slice());
+    let mut store = MemoryStore::new(files(alloc)?, List::from_slice(alloc, &[1])?);
+    assert_eq!(rt; length_of(&mut store, alloc, "A.class")?, Ok(Some(3)));
     assert_eq!(rt;
-        store.read_file(alloc, &name).err(),
-        Some(StoreFault::Failed)
+        length_of(&mut store, alloc, "A.class")?,
+        Err(StoreFault::Failed)
     );
-    let absent = store.read_file(alloc, &line(alloc, "B.class")?);
-    assert!(rt; matches!(absent, Ok(None)));
-    let long = store.read_file(alloc, &line(alloc, "Long.class")?);
-    assert_eq!(rt; long.err(), Some(StoreFault::TooLong));
-    let most = store.read_file(alloc, &line(alloc, "Most.class")?);
-    assert_eq!(rt; most.ok().flatten().ok_or("Most.class")?.len(), 1_048_576);
+    assert_eq!(rt; length_of(&mut store, alloc, "B.class")?, Ok(None));
+    assert_eq!(rt;
+        length_of(&mut store, alloc, "Long.class")?,
+        Err(StoreFault::TooLong)
+    );
+    assert_eq!(rt;
+        length_of(&mut store, alloc, "Most.class")?,
+        Ok(Some(1_048_576))
+    );
+    let mut store = NeverStore::new(files(alloc)?);
+    assert_eq!(rt; length_of(&mut store, alloc, "A.class")?, Ok(Some(3)));
     Ok(())
 }
 
@@ -110,16 +128,16 @@ fn readers_and_writers_of_std(rt: HostRuntime) -> Result<(), Fail> {
 fn files_of_the_folder(rt: HostRuntime) -> Result<(), Fail> {
     let alloc = rt.alloc();
     let mut store = FolderStore::new(&rt);
-    let absent = store.read_file(alloc, &line(alloc, "outside-test-absent")?);
-    assert!(rt; matches!(absent, Ok(None)));
-    let folder = store.read_file(alloc, &line(alloc, ".")?);
-    assert_eq!(rt; folder.err(), Some(StoreFault::Failed));
-
-    fs::write(&rt, "outside-test-file", b"hello")?;
-    let name = line(alloc, "outside-test-file")?;
-    let found = store.read_file(alloc, &name);
-    fs::remove_file(&rt, "outside-test-file")?;
-    let bytes = found.ok().flatten().ok_or("outside-test-file")?;
-    assert_eq!(rt; bytes.as_slice(), b"hello".as_slice());
+    assert_eq!(rt; length_of(&mut store, alloc, "outside-absent")?, Ok(None));
+    assert_eq!(rt; length_of(&mut store, alloc, ".")?, Err(StoreFault::Failed));
+    let long = vec![in alloc; 7u8; 1_048_577]?;
+    fs::write(&rt, "outside-long", long.as_slice())?;
+    fs::write(&rt, "outside-most", &long[1..])?;
+    let too_long = length_of(&mut store, alloc, "outside-long");
+    let most = length_of(&mut store, alloc, "outside-most");
+    fs::remove_file(&rt, "outside-long")?;
+    fs::remove_file(&rt, "outside-most")?;
+    assert_eq!(rt; too_long?, Err(StoreFault::TooLong));
+    assert_eq!(rt; most?, Ok(Some(1_048_576)));
     Ok(())
 }
