@@ -1,5 +1,6 @@
--- What the counts of an object outside tell of a call.
-use Rattle.std.specs.Prelude.{◌≡◌, ℕ, ◌+◌, ◌-◌, ◌^◌, ◌<◌, ◌≤◌, min, length, List, Result, Ok, OnErr}
+-- What a call of an object outside did to its counts and its bytes.
+use Rattle.std.specs.Prelude.{◌≡◌, ℕ, ◌+◌, ◌-◌, ◌^◌, ◌<◌, ◌≤◌, min, length, List, Option, Result, Ok, OnErr}
+use Rattle.std.specs.Io.KnownBytes.{Consumes}
 
 -- a count rose, or stands at the last value of a u64
 abbrev pub Rose : ℕ → ℕ → Type 0
@@ -14,3 +15,7 @@ pub record HasCause {T E : Type 0} (before now : ℕ) (result : Result T E) : Ty
 pub record CountsIdle {E : Type 0} (before now : ℕ) (result : Result ℕ E) (piece : List ℕ) : Type 0 where
   pub later : before ≤ now
   pub idle : result ≡ Ok 0 → 0 < length piece → Rose before now
+
+-- a source lost some bytes from its front, so many at most
+abbrev pub LosesAtMost : Option (List ℕ) → Option (List ℕ) → ℕ → Type 0
+LosesAtMost before now most = (bytes : List ℕ) × Consumes before now bytes × (length bytes ≤ most)

@@ -1,6 +1,6 @@
-ghost use Rattle.std.specs.Prelude.{◌≡◌, ◌≤◌, ◌<◌, ◌⊎◌, [], length, take, IfOk, IfErr, OnOk, OnErr, IfSome, Err};
+ghost use Rattle.std.specs.Prelude.{◌≡◌, ◌+◌, ◌≤◌, ◌<◌, ◌⊎◌, [], length, take, IfOk, IfErr, OnOk, OnErr, IfSome, Err};
 ghost use Rattle.std.specs.Io.KnownBytes.{Appends, IsAtEnd};
-ghost use Rattle.mvm_outside.specs.Causes.{Rose};
+ghost use Rattle.mvm_outside.specs.Causes.{Rose, LosesAtMost};
 
 use crate::traits::{Sink, Source};
 use mvm_base::List;
@@ -20,8 +20,7 @@ pub enum ReadRefusal {
 /// How many bytes are asked for at most in one call.
 const BUFFER_BYTES: usize = 4096;
 
-/// All bytes that are left of a source, which may be `most` at most. Of a longer source it reads one byte past that
-/// limit at most.
+/// All bytes that are left of a source, which may be `most` at most.
 pub fn read_all<S: Source>(
     alloc: Global,
     source: &mut S,
@@ -35,6 +34,9 @@ pub fn read_all<S: Source>(
     // When each error comes.
     ensures read_fault { result ≡ Err ReadRefusal.ReadFault → Rose (S.faults source.old) (S.faults source.new) }
     ensures too_long { result ≡ Err ReadRefusal.InputTooLong → IfSome (S.left source.old) (λ left. most < length left) }
+
+    // Whatever the answer, at most one byte past the limit was taken from the source.
+    ensures taken { LosesAtMost (S.left source.old) (S.left source.new) (most + 1) }
 
     // The count of faults never falls.
     ensures count { S.faults source.old ≤ S.faults source.new }
