@@ -4,5 +4,9 @@
 mod outcome;
 mod refusal;
 mod report;
+mod texts;
+
+#[cfg(test)]
+mod tests;
 
 fn main(_rt: HostRuntime) {}
