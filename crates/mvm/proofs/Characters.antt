@@ -1,8 +1,7 @@
 -- The first character of UTF-16 units, and what it is shown as.
-use Rattle.std.proofs.Common.{◌≡◌, ℕ, ◌<◌, ◌≤◌, Bool, true, false, ◌&&◌, List, [], ◌∷◌, ◌++◌, length, get_or, drop, refl, ap, arith}
-use Rattle.std.specs.Prelude.{Option, Some, None}
+use Rattle.std.proofs.Common.{◌≡◌, ℕ, ◌<◌, ◌≤◌, true, false, ◌&&◌, List, [], ◌∷◌, ◌++◌, length, get_or, drop, refl, arith}
+use Rattle.std.specs.Prelude.{Option, Some}
 use Rattle.std.specs.Char.Utf16.{utf16_chars, lone_unit_char, surrogate_pair_char, is_high_surrogate, is_low_surrogate}
-use Rattle.std.specs.List.{flat_map}
 use Rattle.mvm.specs.Texts.{shown, shown_character}
 
 pub chars_of_one : (units : List ℕ) → 0 < length units → length units < 2 → utf16_chars units ≡ lone_unit_char (get_or units 0 0) ∷ utf16_chars (drop 1 units)

@@ -4,9 +4,8 @@
 mod outcome;
 mod refusal;
 mod report;
-mod texts;
-
 #[cfg(test)]
 mod tests;
+mod texts;
 
 fn main(_rt: HostRuntime) {}

@@ -37,7 +37,9 @@ fn push_refusal(text: &mut Line, refusal: &Refusal) -> Result<(), AllocError>
     ensures ok { OnOk result (text.new ≡ text.old ++ refusal_text_of refusal.now) }
 {
     match refusal {
-        Refusal::Usage => text.push_str("usage: mvm run [--workers N] [--quantum Q] [--statics] | asm | dump | gen N"),
+        Refusal::Usage => text.push_str(
+            "usage: mvm run [--workers N] [--quantum Q] [--statics] | asm | dump | gen N",
+        ),
         Refusal::ReadFault => text.push_str("read failed"),
         Refusal::InputTooLong => text.push_str("input too long"),
         Refusal::Class(fault) => push_class_fault(text, fault),

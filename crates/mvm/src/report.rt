@@ -3,7 +3,7 @@ ghost use Rattle.std.specs.List.{flat_map};
 ghost use Rattle.mvm.specs.Texts.{line, shown};
 ghost use Rattle.mvm.specs.Report.{end_text, message_text, uncaught_text, closed, block_text, block_texts, report_text};
 
-use crate::outcome::{run_status, Outcome};
+use crate::outcome::{Outcome, run_status};
 use crate::texts::{push_number, push_signed, push_units};
 use mvm_base::{Line, Name, OutOfMemory};
 use mvm_interp::{Block, End, LimitKind, Uncaught};

@@ -1,5 +1,4 @@
-use Rattle.std.proofs.Common.{rules, ◌≡◌, ◌++◌, [], length, append_assoc, append-nil, arith, sym, ap, ◌∙◌}
-use Rattle.mvm.specs.Texts.{shown, shown_character}
+use Rattle.std.proofs.Common.{rules, append_assoc, append-nil, arith}
 use Rattle.mvm.proofs.Characters.{shown_first, shown_none}
 use Rattle.mvm.proofs.texts.push_units.Goals as goal
 
