@@ -1,5 +1,5 @@
 -- The report of a run.
-use Rattle.std.specs.Prelude.{ℕ, ◌+◌, ◌-◌, List, [], ◌∷◌, ◌++◌, length, Option, Some, None, ◌==◌, if◌then◌else◌, slice_index, codes, decimal}
+use Rattle.std.specs.Prelude.{ℕ, ◌+◌, ◌-◌, List, [], ◌∷◌, ◌++◌, length, Option, Some, None, ◌==◌, if◌then◌else◌, slice_get, codes, decimal}
 use Rattle.std.specs.List.{flat_map}
 use Rattle.std.specs.Fmt.{signed_decimal}
 use Rattle.mvm.specs.Texts.{shown, line}
@@ -28,10 +28,14 @@ message_text (Some message) = codes ": " ++ shown message
 abbrev pub uncaught_text : Uncaught → List ℕ
 uncaught_text uncaught = line (codes "uncaught " ++ decimal uncaught.thread ++ codes " " ++ shown uncaught.class ++ message_text uncaught.message)
 
+-- what ends the last line of an output whose last byte is this
+abbrev pub line_end : Option ℕ → List ℕ
+line_end None = []
+line_end (Some byte) = if byte == 10 then [] else codes "\n"
+
 -- the output, whose last line is ended if it is not
 abbrev pub closed : List ℕ → List ℕ
-closed [] = []
-closed (byte ∷ bytes) = if slice_index (byte ∷ bytes) (length bytes) == 10 then byte ∷ bytes else line (byte ∷ bytes)
+closed output = output ++ line_end (slice_get output (length output - 1))
 
 -- the lines of an isolate
 unfoldable pub block_text : ℕ → Block → List ℕ

@@ -1,5 +1,5 @@
 -- The status of an answer.
-use Rattle.std.specs.Prelude.{ℕ, pos, List, Bool, true, false, if◌then◌else◌}
+use Rattle.std.specs.Prelude.{ℕ, pos, Bool, false, if◌then◌else◌}
 use Rattle.std.specs.List.{list_all}
 use Rattle.std.specs.Ordering.{int_eq}
 use Rattle.mvm.specs.declared.outcome.Outcome.{Outcome}
@@ -7,7 +7,6 @@ use Rattle.mvm.specs.declared.outcome.What.{What}
 use Rattle.mvm.specs.declared.outcome.What.TheVariants.{Ran, Refused, OutOfMemory}
 use Rattle.mvm.specs.declared.refusal.Refusal.{Refusal}
 use Rattle.mvm.specs.declared.refusal.Refusal.TheVariants.{Usage, ReadFault, InputTooLong, Class, WriteFault}
-use Rattle.mvm_interp.specs.declared.block.Block.{Block}
 use Rattle.mvm_interp.specs.declared.ending.End.{End}
 use Rattle.mvm_interp.specs.declared.ending.End.TheVariants.{Exit, Limit}
 

@@ -4,5 +4,8 @@
 mod outcome;
 mod refusal;
 mod report;
+#[cfg(test)]
+mod tests;
+mod texts;
 
 fn main(_rt: HostRuntime) {}

@@ -1,9 +1,10 @@
 ghost use Rattle.std.specs.Prelude.{◌≡◌};
-ghost use Rattle.mvm.specs.Status.{status_of};
+ghost use Rattle.std.specs.List.{list_all};
+ghost use Rattle.mvm.specs.Status.{is_success, run_status, status_of, refusal_status};
 
 use crate::refusal::Refusal;
 use mvm_base::List;
-use mvm_interp::Block;
+use mvm_interp::{Block, End};
 
 /// What is left of a run: a block for each isolate, in order of their numbers.
 #[derive(Debug, Drop)]
@@ -29,4 +30,55 @@ pub struct Ended {
     /// end.
     pub status: u8,
     pub what: What,
+}
+
+/// The status that a call ends with.
+pub fn status_of(what: &What) -> u8
+    ensures { result ≡ status_of what.now }
+{
+    match what {
+        What::Ran(outcome) => run_status(outcome),
+        What::Refused(refusal) => refusal_status(refusal),
+        What::OutOfMemory => 6,
+    }
+}
+
+/// The status of a run: 0 where each isolate ended with exit 0, 1 where some isolate did not.
+pub fn run_status(outcome: &Outcome) -> u8
+    ensures { result ≡ run_status outcome.now }
+{
+    if all_succeeded(outcome.isolates.as_slice()) {
+        0
+    } else {
+        1
+    }
+}
+
+// Whether each of these isolates ended with exit 0.
+fn all_succeeded(isolates: &[Block]) -> bool
+    ensures { result ≡ list_all (λ block. is_success block.end) isolates.now }
+{
+    isolates.iter().all(|block| is_success(&block.end))
+}
+
+// Whether an isolate ended with exit 0.
+fn is_success(end: &End) -> bool
+    ensures { result ≡ is_success end.now }
+{
+    match end {
+        End::Exit(code) => *code == 0,
+        End::Limit(_) => false,
+    }
+}
+
+// The status of a refusal.
+fn refusal_status(refusal: &Refusal) -> u8
+    ensures { result ≡ refusal_status refusal.now }
+{
+    match refusal {
+        Refusal::Usage => 2,
+        Refusal::ReadFault => 3,
+        Refusal::InputTooLong | Refusal::Class(_) => 4,
+        Refusal::WriteFault(_) => 5,
+    }
 }

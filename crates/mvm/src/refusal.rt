@@ -1,4 +1,10 @@
+ghost use Rattle.std.specs.Prelude.{◌≡◌, ◌++◌, OnOk, IfOk};
+ghost use Rattle.mvm.specs.Refusals.{class_fault_text, refusal_text_of};
+
+use crate::texts::push_number;
+use mvm_base::{Line, OutOfMemory};
 use mvm_classfile::ClassFault;
+use std::alloc::{AllocError, Global};
 
 /// Why a call of [`launch`](crate::launch::launch) did not run to its end.
 #[derive(Clone, Copy, Debug, PartialEq, Eq)]
@@ -13,4 +19,48 @@ pub enum Refusal {
     Class(ClassFault),
     /// A write of the report failed, or took nothing, after so many bytes.
     WriteFault(u64),
+}
+
+/// What a refusal reads as, without an end of the line.
+#[tactic(auto, unfolding(crate::specs::Refusals::refusal_text_of))]
+pub fn refusal_text(alloc: Global, refusal: &Refusal) -> Result<Line, OutOfMemory>
+    ensures { IfOk result (λ text. text ≡ refusal_text_of refusal.now) }
+{
+    let mut text = Line::new(alloc);
+    push_refusal(&mut text, refusal)?;
+    Ok(text)
+}
+
+// Adds what a refusal reads as.
+#[tactic(auto, unfolding(crate::specs::Refusals::refusal_text_of))]
+fn push_refusal(text: &mut Line, refusal: &Refusal) -> Result<(), AllocError>
+    ensures ok { OnOk result (text.new ≡ text.old ++ refusal_text_of refusal.now) }
+{
+    match refusal {
+        Refusal::Usage => text.push_str(
+            "usage: mvm run [--workers N] [--quantum Q] [--statics] | asm | dump | gen N",
+        ),
+        Refusal::ReadFault => text.push_str("read failed"),
+        Refusal::InputTooLong => text.push_str("input too long"),
+        Refusal::Class(fault) => push_class_fault(text, fault),
+        Refusal::WriteFault(count) => {
+            text.push_str("write failed after ")?;
+            push_number(text, *count)?;
+            text.push_str(" bytes")
+        }
+    }
+}
+
+// Adds why an input is not a class file that is read.
+fn push_class_fault(text: &mut Line, fault: &ClassFault) -> Result<(), AllocError>
+    ensures ok { OnOk result (text.new ≡ text.old ++ class_fault_text fault.now) }
+{
+    match fault {
+        ClassFault::Magic => text.push_str("class: magic"),
+        ClassFault::Unsupported(place) => {
+            text.push_str("class: unsupported ")?;
+            push_number(text, u64::from(*place))
+        }
+        ClassFault::OutOfMemory => text.push_str("out of memory"),
+    }
 }
