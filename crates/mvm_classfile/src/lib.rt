@@ -10,8 +10,10 @@
 mod code;
 mod fault;
 mod instruction;
+mod layout;
 mod opcodes;
 mod parts;
+mod pool;
 
 pub use code::Code;
 pub use fault::ClassFault;
