@@ -7,6 +7,7 @@
 //! call keeps a reference to the bytes that it was handed.
 #![tactic(auto)]
 
+mod class_name;
 mod code;
 mod fault;
 mod instruction;
