@@ -18,13 +18,26 @@ pub record Stands {A : Type 0} (spells : A → List ℕ → Type 0) (p : Place) 
 pub record Exact {A : Type 0} (F : Format A) : Type 0 where
   pub sound : (p : Place) (x : A) (q : Place) → F.read p ≡ Ok (x, q) → Stands F.spells p x q
   pub complete : (x : A) (text rest : List ℕ) (at : ℕ) → F.spells x text → F.read (record { at = at; rest = text ++ rest }) ≡ Ok (x, record { at = at + length text; rest = rest })
+  -- what is not spelled is refused with the one fault of a layout
+  pub refuses : (p : Place) (fault : ClassFault) → F.read p ≡ Err fault → fault ≡ Unsupported 0
+
+abbrev pub done : {A : Type 0} → A → Result A ClassFault
+done x = Ok x
 
 pub bind_ok : {A B : Type 0} (r : Result A ClassFault) (f : A → Result B ClassFault) (y : B) → (r >>= f) ≡ Ok y → (x : A) × (r ≡ Ok x) × (f x ≡ Ok y)
 bind_ok (Ok x) f y e = (x, refl, e)
 bind_ok (Err d) f y e = absurd cc
 
-abbrev pub done : {A : Type 0} → A → Result A ClassFault
-done x = Ok x
+bind_err : {A B : Type 0} (r : Result A ClassFault) (f : A → Result B ClassFault) (fault : ClassFault) → ((e : ClassFault) → r ≡ Err e → e ≡ Unsupported 0) → ((x : A) (e : ClassFault) → f x ≡ Err e → e ≡ Unsupported 0) → (r >>= f) ≡ Err fault → fault ≡ Unsupported 0
+bind_err (Ok x) f fault one two e = two x fault e
+bind_err (Err d) f fault one two e = let k = one d refl in cc
+
+never_refuses : {A : Type 0} (x : A) (e : ClassFault) → done x ≡ Err e → e ≡ Unsupported 0
+never_refuses x e h = absurd cc
+
+whole_refuses : {A : Type 0} (r : Result (A × Place) ℕ) (e : ClassFault) → whole r ≡ Err e → e ≡ Unsupported 0
+whole_refuses (Ok x) e h = absurd cc
+whole_refuses (Err at) e h = cc
 
 pub ok_is : {A : Type 0} (x y : A) → done x ≡ done y → x ≡ y
 ok_is x y e = cc
@@ -52,6 +65,7 @@ pub bytes-exact : (n : ℕ) → Exact (bytes n)
 bytes-exact n = record {
   sound = λ p x q e. (let b = run_ok n p x q e in record { text = x; spelled = (refl, b.2); front = b.0; place = b.1 });
   complete = λ x text rest at s. rw s.0 (run_again n x rest at s.1);
+  refuses = λ p e h. whole_refuses (run n p) e h;
 }
 
 numbered_ok : (n : ℕ) (r : Result (List ℕ × Place) ℕ) (m : ℕ) (q : Place) → whole (numbered n r) ≡ Ok (m, q) → (x : List ℕ) × (whole r ≡ Ok (x, q)) × (big_number n x ≡ m)
@@ -71,6 +85,7 @@ number-exact n = record {
       let b = run_ok n p v.0 q v.1 in
       record { text = v.0; spelled = (b.2, v.2); front = b.0; place = b.1 });
   complete = λ m text rest at s. numbered_again n (run n (record { at = at; rest = text ++ rest })) text _ (run_again n text rest at s.0) ∙ ap (λ (k : ℕ). done (k, record { at = at + length text; rest = rest })) s.1;
+  refuses = λ p e h. whole_refuses (big n p) e h;
 }
 
 -- ---- a value that no bytes stand for, another value, a choice, none
@@ -79,6 +94,7 @@ pub given-exact : {A : Type 0} (y : A) → Exact (given y)
 given-exact y = record {
   sound = λ p x q e. (let k = ok_is (y, p) (x, q) e in subst (λ (z : _ × Place). Stands (given y).spells p z.0 z.1) k (record { text = []; spelled = (refl, refl); front = refl; place = omega arith }));
   complete = λ x text rest at s. rw (s.0, s.1) (ap (λ (m : ℕ). done (y, record { at = m; rest = rest })) (omega arith));
+  refuses = λ p e h. never_refuses (y, p) e h;
 }
 
 pub mapped-exact : {A B : Type 0} (h : A → B) (F : Format A) → Exact F → Exact (mapped h F)
@@ -89,14 +105,15 @@ mapped-exact h F f = record {
       let k = ok_is (h a.0.0, a.0.1) (y, q) a.2 in
       subst (λ (z : _ × Place). Stands (mapped h F).spells p z.0 z.1) k (record { text = s.text; spelled = (a.0.0, s.spelled, refl); front = s.front; place = s.place }));
   complete = λ y text rest at s. rw (f.complete s.0 text rest at s.1, s.2) refl;
+  refuses = λ p e k. bind_err (F.read p) (λ x. Ok (h x.0, x.1)) e (λ d u. f.refuses p d u) (λ x d u. never_refuses (h x.0, x.1) d u) k;
 }
 
 pub choose-exact : {A : Type 0} (b : Bool) (F G : Format A) → Exact F → Exact G → Exact (choose b F G)
 choose-exact true F G f g = f
 choose-exact false F G f g = g
 
-pub refused-exact : {A : Type 0} (fault : ClassFault) → Exact (refused {A = A} fault)
-refused-exact fault = record { sound = λ p x q h. absurd cc; complete = λ x text rest at s. absurd s }
+pub refused-exact : {A : Type 0} → Exact (refused {A = A} (Unsupported 0))
+refused-exact = record { sound = λ p x q h. absurd cc; complete = λ x text rest at s. absurd s; refuses = λ p e h. cc }
 
 -- ---- the values that pass a test
 
@@ -108,6 +125,10 @@ kept_again : {A : Type 0} (b : Bool) (x : A) → IsTrue b → kept b x ≡ Ok x
 kept_again true x h = refl
 kept_again false x h = absurd cc
 
+kept_refuses : {A : Type 0} (b : Bool) (x : A) (e : ClassFault) → kept b x ≡ Err e → e ≡ Unsupported 0
+kept_refuses true x e h = absurd cc
+kept_refuses false x e h = cc
+
 pub passing-exact : {A : Type 0} (test : A → Bool) (F : Format A) → Exact F → Exact (passing test F)
 passing-exact test F f = record {
   sound = λ p y q e. (
@@ -116,6 +137,7 @@ passing-exact test F f = record {
       let s = f.sound p a.0.0 a.0.1 a.1 in
       subst (λ (z : _ × Place). Stands (passing test F).spells p z.0 z.1) k.1 (record { text = s.text; spelled = (s.spelled, k.0); front = s.front; place = s.place }));
   complete = λ y text rest at s. rw (f.complete y text rest at s.0) (kept_again (test y) _ s.1);
+  refuses = λ p e k. bind_err (F.read p) (λ x. kept (test x.0) x) e (λ d u. f.refuses p d u) (λ x d u. kept_refuses (test x.0) x d u) k;
 }
 
 -- ---- one behind the other
@@ -139,12 +161,16 @@ followed-exact F G f g = record {
       let e : text ++ rest ≡ s.0 ++ (s.1 ++ rest) = rw s.4 (append_assoc s.0 s.1 rest) in
       let n : (at + length s.0) + length s.1 ≡ at + length text = rw s.4 (omega (arith, length-append s.0 s.1)) in
       rw (e, one, two, n) refl);
+  refuses = λ p e k.
+      bind_err (F.read p) (λ y. (G y.0).read y.1 >>= λ z. Ok ((y.0, z.0), z.1)) e (λ d u. f.refuses p d u)
+      (λ y d u. bind_err ((G y.0).read y.1) (λ z. Ok ((y.0, z.0), z.1)) d (λ c v. (g y.0).refuses y.1 c v) (λ z c v. never_refuses ((y.0, z.0), z.1) c v) u) k;
 }
 
 pub times-exact : {A : Type 0} (n : ℕ) (F : Format A) → Exact F → Exact (times n F)
 times-exact zero F f = record {
   sound = λ p xs q e. (let k = ok_is ([], p) (xs, q) e in subst (λ (z : List _ × Place). Stands (spells_times F zero) p z.0 z.1) k (record { text = []; spelled = (refl, refl); front = refl; place = omega arith }));
   complete = λ xs text rest at s. rw (s.0, s.1) (ap (λ (m : ℕ). done ([], record { at = m; rest = rest })) (omega arith));
+  refuses = λ p e h. never_refuses ([], p) e h;
 }
 times-exact (suc n) F f = record {
   sound = λ p xs r e. (
@@ -156,6 +182,9 @@ times-exact (suc n) F f = record {
       let k = ok_is (a.0.0 ∷ b.0.0, b.0.1) (xs, r) b.2 in
       subst (λ (z : List _ × Place). Stands (spells_times F (suc n)) p z.0 z.1) k (record { text = one.text ++ two.text; spelled = (one.text, two.text, one.spelled, two.spelled, refl); front = j.0; place = j.1 }));
   complete = λ xs text rest at s. again xs text rest at s (λ ys t more place h. (times-exact n F f).complete ys t more place h);
+  refuses = λ p e k.
+      bind_err (F.read p) (λ y. read_times F n y.1 >>= λ z. Ok (y.0 ∷ z.0, z.1)) e (λ d u. f.refuses p d u)
+      (λ y d u. bind_err (read_times F n y.1) (λ z. Ok (y.0 ∷ z.0, z.1)) d (λ c v. (times-exact n F f).refuses y.1 c v) (λ z c v. never_refuses (y.0 ∷ z.0, z.1) c v) u) k;
 }
   where
     again : (xs : List _) (text rest : List ℕ) (at : ℕ) → spells_times F (suc n) xs text

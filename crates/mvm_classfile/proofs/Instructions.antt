@@ -4,7 +4,6 @@ use Rattle.std.specs.Prelude.{pos, ◌-ℤ◌}
 use Rattle.std.specs.Int.{Width, w8, w16}
 use Rattle.mvm_classfile.specs.Format.{Format, number, followed}
 use Rattle.mvm_classfile.specs.Opcodes.{signed, constant, load, store, operation_of, condition_of, target, branch, increment, operands, instruction, second}
-use Rattle.mvm_classfile.specs.declared.fault.ClassFault.TheVariants.{Unsupported}
 use Rattle.mvm_classfile.specs.declared.instruction.Instruction.TheVariants.{Constant, Load, Store, Compute, BranchIfZero, BranchIf, Goto, Return, InvokeStatic}
 use Rattle.mvm_classfile.proofs.Exactness.{Exact, number-exact, given-exact, followed-exact, mapped-exact, choose-exact, refused-exact}
 
@@ -46,7 +45,7 @@ operands-exact at op =
     (choose-exact _ _ _ increment-exact
     (choose-exact _ _ _ (branch-exact at op)
     (choose-exact _ _ _ (given-exact Return)
-    (choose-exact _ _ _ (mapped-exact InvokeStatic (number 2) (number-exact 2)) (refused-exact (Unsupported 0)))))))))
+    (choose-exact _ _ _ (mapped-exact InvokeStatic (number 2) (number-exact 2)) refused-exact)))))))
 
 pub instruction-exact : (at : ℕ) → Exact (instruction at)
 unfolding instruction

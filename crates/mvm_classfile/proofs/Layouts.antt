@@ -3,7 +3,6 @@ use Rattle.std.proofs.Common.{ℕ, ◌-◌}
 use Rattle.mvm_classfile.specs.Format.{Format, bytes, number, followed, passing, times}
 use Rattle.mvm_classfile.specs.Opcodes.{second}
 use Rattle.mvm_classfile.specs.File.{utf8, tagged, item, pool, none, one, instructions, code, code_of, attribute, method, method_of, magic, members, parts_of, layout}
-use Rattle.mvm_classfile.specs.declared.fault.ClassFault.TheVariants.{Unsupported}
 use Rattle.mvm_classfile.specs.declared.parts.Item.TheVariants.{Utf8, Class, Methodref, NameAndType}
 use Rattle.mvm_classfile.proofs.Exactness.{Exact, bytes-exact, number-exact, followed-exact, mapped-exact, choose-exact, refused-exact, passing-exact, times-exact}
 
@@ -17,7 +16,7 @@ tagged-exact tag =
     choose-exact _ _ _ (mapped-exact Utf8 utf8 utf8-exact)
     (choose-exact _ _ _ (mapped-exact Class (number 2) (number-exact 2))
     (choose-exact _ _ _ (mapped-exact (λ (x : ℕ × ℕ). Methodref x.0 x.1) (followed (number 2) (λ class. number 2)) (followed-exact (number 2) (λ class. number 2) (number-exact 2) (λ class. number-exact 2)))
-    (choose-exact _ _ _ (mapped-exact (λ (x : ℕ × ℕ). NameAndType x.0 x.1) (followed (number 2) (λ name. number 2)) (followed-exact (number 2) (λ name. number 2) (number-exact 2) (λ name. number-exact 2))) (refused-exact (Unsupported 0)))))
+    (choose-exact _ _ _ (mapped-exact (λ (x : ℕ × ℕ). NameAndType x.0 x.1) (followed (number 2) (λ name. number 2)) (followed-exact (number 2) (λ name. number 2) (number-exact 2) (λ name. number-exact 2))) refused-exact)))
 
 item-exact : Exact item
 unfolding item

@@ -3,3 +3,5 @@ pub mod Loops
 pub mod Instructions
 pub mod Layouts
 pub mod Names
+pub mod Cuts
+pub mod Marking

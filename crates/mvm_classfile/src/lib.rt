@@ -15,6 +15,7 @@ mod layout;
 mod opcodes;
 mod parts;
 mod pool;
+mod rules;
 
 pub use code::Code;
 pub use fault::ClassFault;
