@@ -3,7 +3,7 @@ use Rattle.std.proofs.Common.{◌≡◌, ◌≢◌, ◌<◌, ◌≤◌, ℕ, ◌
 use Rattle.std.proofs.lemmas.Bool.{eqb-true, eqb-false}
 use Rattle.std.proofs.lemmas.List.{append-nil, length-append, nil_from_length}
 use Rattle.mvm_base.specs.Place.{Place}
-use Rattle.mvm_classfile.specs.Answers.{Fails}
+use Rattle.mvm_classfile.specs.Answers.{Fails, IsUnsupported}
 use Rattle.mvm_classfile.specs.Opcodes.{instruction}
 use Rattle.mvm_classfile.specs.File.{AreInstructions}
 use Rattle.mvm_classfile.specs.declared.fault.ClassFault.{ClassFault}
@@ -108,3 +108,6 @@ not_ended n b e f = let k = eqb-false n 0 (sym e ∙ f) in omega arith
 
 pub is_ended : (n : ℕ) (b : Bool) → b ≡ eqb n 0 → b ≡ true → n ≡ 0
 is_ended n b e f = eqb-true n 0 (sym e ∙ f)
+
+pub cut-refuses : (p : Place) (fault : ClassFault) → (instruction p.at).read p ≡ Err fault → IsUnsupported fault
+cut-refuses p fault h = λ other. (instruction-exact p.at).refuses p fault h

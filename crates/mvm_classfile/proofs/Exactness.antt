@@ -28,7 +28,7 @@ pub bind_ok : {A B : Type 0} (r : Result A ClassFault) (f : A → Result B Class
 bind_ok (Ok x) f y e = (x, refl, e)
 bind_ok (Err d) f y e = absurd cc
 
-bind_err : {A B : Type 0} (r : Result A ClassFault) (f : A → Result B ClassFault) (fault : ClassFault) → ((e : ClassFault) → r ≡ Err e → e ≡ Unsupported 0) → ((x : A) (e : ClassFault) → f x ≡ Err e → e ≡ Unsupported 0) → (r >>= f) ≡ Err fault → fault ≡ Unsupported 0
+pub bind_err : {A B : Type 0} (r : Result A ClassFault) (f : A → Result B ClassFault) (fault : ClassFault) → ((e : ClassFault) → r ≡ Err e → e ≡ Unsupported 0) → ((x : A) (e : ClassFault) → f x ≡ Err e → e ≡ Unsupported 0) → (r >>= f) ≡ Err fault → fault ≡ Unsupported 0
 bind_err (Ok x) f fault one two e = two x fault e
 bind_err (Err d) f fault one two e = let k = one d refl in cc
 
@@ -117,15 +117,15 @@ refused-exact = record { sound = λ p x q h. absurd cc; complete = λ x text res
 
 -- ---- the values that pass a test
 
-kept_ok : {A : Type 0} (b : Bool) (x y : A) → kept b x ≡ Ok y → (b ≡ true) × (x ≡ y)
+pub kept_ok : {A : Type 0} (b : Bool) (x y : A) → kept b x ≡ Ok y → (b ≡ true) × (x ≡ y)
 kept_ok true x y e = (refl, ok_is x y e)
 kept_ok false x y e = absurd cc
 
-kept_again : {A : Type 0} (b : Bool) (x : A) → IsTrue b → kept b x ≡ Ok x
+pub kept_again : {A : Type 0} (b : Bool) (x : A) → IsTrue b → kept b x ≡ Ok x
 kept_again true x h = refl
 kept_again false x h = absurd cc
 
-kept_refuses : {A : Type 0} (b : Bool) (x : A) (e : ClassFault) → kept b x ≡ Err e → e ≡ Unsupported 0
+pub kept_refuses : {A : Type 0} (b : Bool) (x : A) (e : ClassFault) → kept b x ≡ Err e → e ≡ Unsupported 0
 kept_refuses true x e h = absurd cc
 kept_refuses false x e h = cc
 

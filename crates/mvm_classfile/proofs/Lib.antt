@@ -5,3 +5,4 @@ pub mod Layouts
 pub mod Names
 pub mod Cuts
 pub mod Marking
+pub mod Whole

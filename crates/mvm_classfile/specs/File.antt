@@ -3,7 +3,7 @@ use Rattle.std.specs.Prelude.{◌≡◌, ◌≢◌, ◌≤◌, ◌<◌, ℕ, ◌
 use Rattle.std.specs.List.{list_all, list_any}
 use Rattle.std.specs.Ordering.{int_eq}
 use Rattle.std.specs.Str.{bytes_eq}
-use Rattle.mvm_classfile.specs.Format.{Format, bytes, number, followed, mapped, choose, refused, passing, times}
+use Rattle.mvm_classfile.specs.Format.{Format, ◌>>=◌, bytes, number, followed, mapped, choose, refused, kept, passing, times}
 use Rattle.mvm_classfile.specs.Opcodes.{between, second, instruction}
 use Rattle.mvm_classfile.specs.Pool.{text, class_name, is_text, is_linked, is_println}
 use Rattle.mvm_classfile.specs.ClassName.{is_class_name}
@@ -119,6 +119,10 @@ layout =
     followed (number 2) (λ this_class.
     followed (number 2) (λ super_class. members))))))))
 
+-- the parts that the bytes, all of them, spell
+unfoldable pub parsed : List ℕ → Result Parts ClassFault
+parsed text = layout.read (record { at = 0; rest = text }) >>= λ x. kept (length x.1.rest == 0) x.0
+
 -- ---- the rules of this stage
 
 abbrev pub is_named_as_class : Option (List ℕ) → Bool
@@ -179,6 +183,12 @@ is_last (Some p) = leaves p.instruction
 abbrev pub are_sound : List Item → ℕ → List Placed → Bool
 are_sound pool max_locals placed =
     list_all (λ p. is_sound pool max_locals (begins placed) p.instruction) placed && is_last (slice_get placed (length placed - 1))
+
+-- the code of `main` is instructions, which are sound
+pub record HasSoundCode (parts : Parts) : Type 0 where
+  pub placed : List Placed
+  pub cut : AreInstructions 0 placed parts.main.code.bytes
+  pub sound : IsTrue (are_sound parts.pool parts.main.code.max_locals placed)
 
 -- what of a class file a run needs
 abbrev pub class_of : Parts → ClassFile

@@ -15,6 +15,7 @@ mod layout;
 mod opcodes;
 mod parts;
 mod pool;
+mod read;
 mod rules;
 
 pub use code::Code;
@@ -22,3 +23,4 @@ pub use fault::ClassFault;
 pub use instruction::{Arithmetic, Condition, Instruction};
 pub use opcodes::At;
 pub use parts::{ClassFile, Item, Method, Parts, Placed};
+pub use read::read_class;

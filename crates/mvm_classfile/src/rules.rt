@@ -1,9 +1,9 @@
-ghost use Rattle.std.specs.Prelude.{◌≡◌, ◌<◌, ◌-◌, ℕ, pos, List as Items, length, get_or, slice_get, false, IfOk, OnOk, Ok};
+ghost use Rattle.std.specs.Prelude.{◌≡◌, ◌<◌, ◌-◌, ℕ, pos, List as Items, length, get_or, slice_get, false, IfOk, IfErr, OnOk, Ok};
 ghost use Rattle.std.specs.List.{list_all};
-ghost use Rattle.mvm_classfile.specs.Answers.{AnswersInMemory};
+ghost use Rattle.mvm_classfile.specs.Answers.{AnswersInMemory, IsUnsupported};
 ghost use Rattle.mvm_classfile.specs.Pool.{class_name, is_linked};
 ghost use Rattle.mvm_classfile.specs.Marks.{marked};
-ghost use Rattle.mvm_classfile.specs.File.{is_named_as_class, is_main, is_first_form, AreInstructions, begins, is_sound, is_last, are_sound};
+ghost use Rattle.mvm_classfile.specs.File.{is_named_as_class, is_main, is_first_form, AreInstructions, begins, is_sound, is_last, are_sound, HasSoundCode};
 ghost use Rattle.mvm_classfile.specs.declared.parts.Placed.{Placed as PlacedOf};
 
 use crate::class_name::is_class_name;
@@ -69,6 +69,7 @@ pub(crate) fn cut(alloc: Global, code: &Code) -> Result<List<Placed>, ClassFault
     ensures found { IfOk result (λ placed. AreInstructions 0 placed code.now.bytes) }
     // What can be cut is found, unless memory runs out.
     ensures only { (placed : Items PlacedOf) → AreInstructions 0 placed code.now.bytes → AnswersInMemory result (Ok placed) }
+    ensures fault { IfErr result IsUnsupported }
 {
     let mut cursor = Cursor::new(code.bytes());
     let mut all = List::new(alloc);
@@ -145,7 +146,10 @@ fn ends_well(placed: &List<Placed>) -> bool
     ensures { result ≡ is_last (slice_get placed.now (length placed.now - 1)) }
 {
     match placed.get(placed.len().saturating_sub(1)) {
-        Some(p) => matches!(p.instruction, Instruction::Goto { .. } | Instruction::Return),
+        Some(p) => matches!(
+            p.instruction,
+            Instruction::Goto { .. } | Instruction::Return
+        ),
         None => false,
     }
 }
@@ -164,4 +168,18 @@ pub(crate) fn are_sound(
         return Ok(false);
     }
     Ok(ends_well(placed))
+}
+
+/// Reads the code of `main` through, and answers `Ok` where its instructions are sound.
+pub(crate) fn check_code(alloc: Global, parts: &Parts) -> Result<(), ClassFault>
+    ensures found { OnOk result (HasSoundCode parts.now) }
+    ensures only { HasSoundCode parts.now → AnswersInMemory result (Ok tt) }
+    ensures fault { IfErr result IsUnsupported }
+{
+    let placed = cut(alloc, &parts.main.code)?;
+    let max_locals = parts.main.code.max_locals();
+    if !are_sound(alloc, &parts.pool, max_locals, &placed)? {
+        return Err(ClassFault::Unsupported(0));
+    }
+    Ok(())
 }

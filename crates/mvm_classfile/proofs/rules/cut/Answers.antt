@@ -1,5 +1,5 @@
 use Rattle.std.proofs.lemmas.Result.{err_from_is_err_and}
-use Rattle.mvm_classfile.proofs.Cuts.{cut-begins, cut-shorter, cut-goes_on, cut-found, cut-only, cut-fails, not_ended, is_ended}
+use Rattle.mvm_classfile.proofs.Cuts.{cut-begins, cut-shorter, cut-goes_on, cut-found, cut-only, cut-fails, not_ended, is_ended, cut-refuses}
 use Rattle.std.proofs.Common.{length}
 use Rattle.mvm_classfile.proofs.rules.cut.Goals as goal
 
@@ -25,3 +25,8 @@ returns-clause-found c = cut-found c.args.code.now.bytes c.loop-cursor.all c.loo
 
 pub returns-clause-only : goal.returns-clause-only
 returns-clause-only c = λ placed h. cut-only c.args.code.now.bytes c.loop-cursor.all c.loop-cursor.cursor placed c.loop-cursor.invariant (is_ended (length c.loop-cursor.cursor.rest) c.is_at_end.result c.is_at_end.ensures c.loop-cursor-test.false) h
+
+pub returns-in_err-instruction-clause-fault : goal.returns-in_err-instruction-clause-fault
+returns-in_err-instruction-clause-fault c =
+    let p = err_from_is_err_and c.from_residual.result c.from_residual.ensures.1 in
+    rw (p.1, p.2) (cut-refuses c.loop-cursor.cursor c.in_err-instruction.field-0.0 c.in_err-instruction.ensures)
