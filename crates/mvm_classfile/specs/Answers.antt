@@ -1,7 +1,7 @@
 -- What a call answered, against what a definition gives.
 use Rattle.std.specs.Prelude.{◌≡◌, ◌≢◌, Result, Ok, Err}
 use Rattle.mvm_classfile.specs.declared.fault.ClassFault.{ClassFault}
-use Rattle.mvm_classfile.specs.declared.fault.ClassFault.TheVariants.{OutOfMemory}
+use Rattle.mvm_classfile.specs.declared.fault.ClassFault.TheVariants.{Unsupported, OutOfMemory}
 
 -- The answer is what the definition gives, which also says where reading came to. After a fault nothing is said of that place.
 abbrev pub Gives : {A S : Type 0} → Result A ClassFault → Result (A × S) ClassFault → S → Type 0
@@ -21,3 +21,7 @@ GivesInMemory (Err fault) definition new = Fails fault definition
 abbrev pub AnswersInMemory : {A : Type 0} → Result A ClassFault → Result A ClassFault → Type 0
 AnswersInMemory (Ok x) definition = definition ≡ Ok x
 AnswersInMemory (Err fault) definition = Fails fault definition
+
+-- the one fault of a file that is not of the form that is read, if memory did not run out
+abbrev pub IsUnsupported : ClassFault → Type 0
+IsUnsupported fault = fault ≢ OutOfMemory → fault ≡ Unsupported 0

@@ -3,7 +3,7 @@ use Rattle.std.specs.Prelude.{◌≡◌, ◌≢◌, ◌≤◌, ◌<◌, ℕ, ◌
 use Rattle.std.specs.List.{list_all, list_any}
 use Rattle.std.specs.Ordering.{int_eq}
 use Rattle.std.specs.Str.{bytes_eq}
-use Rattle.mvm_classfile.specs.Format.{Format, bytes, number, followed, mapped, choose, refused, passing, times}
+use Rattle.mvm_classfile.specs.Format.{Format, ◌>>=◌, bytes, number, followed, mapped, choose, refused, kept, passing, times}
 use Rattle.mvm_classfile.specs.Opcodes.{between, second, instruction}
 use Rattle.mvm_classfile.specs.Pool.{text, class_name, is_text, is_linked, is_println}
 use Rattle.mvm_classfile.specs.ClassName.{is_class_name}
@@ -119,6 +119,10 @@ layout =
     followed (number 2) (λ this_class.
     followed (number 2) (λ super_class. members))))))))
 
+-- the parts that the bytes, all of them, spell
+unfoldable pub parsed : List ℕ → Result Parts ClassFault
+parsed text = layout.read (record { at = 0; rest = text }) >>= λ x. kept (length x.1.rest == 0) x.0
+
 -- ---- the rules of this stage
 
 abbrev pub is_named_as_class : Option (List ℕ) → Bool
@@ -153,18 +157,18 @@ AreInstructions at (x ∷ xs) text = (s t : List ℕ) × (x.at ≡ at) × (instr
 abbrev pub begins : List Placed → ℤ → Bool
 begins placed target = list_any (λ p. int_eq (pos p.at) target) placed
 
--- its local variable is there, its target begins an instruction, its method is the one that is there
-unfoldable pub is_sound : List Item → ℕ → List Placed → Instruction → Bool
-is_sound items max_locals placed (Constant value) = true
-is_sound items max_locals placed (Load local) = nat_lt local max_locals
-is_sound items max_locals placed (Store local) = nat_lt local max_locals
-is_sound items max_locals placed (Compute operation) = true
-is_sound items max_locals placed (Increment local by) = nat_lt local max_locals
-is_sound items max_locals placed (BranchIfZero condition target) = begins placed target
-is_sound items max_locals placed (BranchIf condition target) = begins placed target
-is_sound items max_locals placed (Goto target) = begins placed target
-is_sound items max_locals placed Return = true
-is_sound items max_locals placed (InvokeStatic method) = is_println items method
+-- its local variable is there, its target is the start of an instruction, its method is the one that is there
+unfoldable pub is_sound : List Item → ℕ → (ℤ → Bool) → Instruction → Bool
+is_sound items max_locals is_start (Constant value) = true
+is_sound items max_locals is_start (Load local) = nat_lt local max_locals
+is_sound items max_locals is_start (Store local) = nat_lt local max_locals
+is_sound items max_locals is_start (Compute operation) = true
+is_sound items max_locals is_start (Increment local by) = nat_lt local max_locals
+is_sound items max_locals is_start (BranchIfZero condition target) = is_start target
+is_sound items max_locals is_start (BranchIf condition target) = is_start target
+is_sound items max_locals is_start (Goto target) = is_start target
+is_sound items max_locals is_start Return = true
+is_sound items max_locals is_start (InvokeStatic method) = is_println items method
 
 -- execution does not fall off the end of the code (4.9.2)
 abbrev pub is_last : Option Placed → Bool
@@ -178,7 +182,13 @@ is_last (Some p) = leaves p.instruction
 
 abbrev pub are_sound : List Item → ℕ → List Placed → Bool
 are_sound pool max_locals placed =
-    list_all (λ p. is_sound pool max_locals placed p.instruction) placed && is_last (slice_get placed (length placed - 1))
+    list_all (λ p. is_sound pool max_locals (begins placed) p.instruction) placed && is_last (slice_get placed (length placed - 1))
+
+-- the code of `main` is instructions, which are sound
+pub record HasSoundCode (parts : Parts) : Type 0 where
+  pub placed : List Placed
+  pub cut : AreInstructions 0 placed parts.main.code.bytes
+  pub sound : IsTrue (are_sound parts.pool parts.main.code.max_locals placed)
 
 -- what of a class file a run needs
 abbrev pub class_of : Parts → ClassFile

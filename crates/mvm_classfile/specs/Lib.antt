@@ -5,3 +5,4 @@ pub mod Opcodes
 pub mod Pool
 pub mod ClassName
 pub mod File
+pub mod Marks

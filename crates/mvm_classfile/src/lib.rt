@@ -7,14 +7,20 @@
 //! call keeps a reference to the bytes that it was handed.
 #![tactic(auto)]
 
+mod class_name;
 mod code;
 mod fault;
 mod instruction;
+mod layout;
 mod opcodes;
 mod parts;
+mod pool;
+mod read;
+mod rules;
 
 pub use code::Code;
 pub use fault::ClassFault;
 pub use instruction::{Arithmetic, Condition, Instruction};
 pub use opcodes::At;
 pub use parts::{ClassFile, Item, Method, Parts, Placed};
+pub use read::read_class;
