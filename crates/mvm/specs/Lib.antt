@@ -2,3 +2,4 @@ pub mod Texts
 pub mod Status
 pub mod Report
 pub mod Refusals
+pub mod Launch
