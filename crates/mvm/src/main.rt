@@ -4,8 +4,9 @@
 mod outcome;
 mod refusal;
 mod report;
-#[cfg(test)]
-mod tests;
 mod texts;
 
 fn main(_rt: HostRuntime) {}
+
+#[cfg(test)]
+mod tests;
