@@ -22,7 +22,6 @@ pub enum Refusal {
 }
 
 /// What a refusal reads as, without an end of the line.
-#[tactic(auto, unfolding(crate::specs::Refusals::refusal_text_of))]
 pub fn refusal_text(alloc: Global, refusal: &Refusal) -> Result<Line, OutOfMemory>
     ensures { IfOk result (λ text. text ≡ refusal_text_of refusal.now) }
 {

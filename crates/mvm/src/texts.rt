@@ -9,7 +9,6 @@ use std::alloc::AllocError;
 
 /// Adds the characters of UTF-16 units at the end of a text. A surrogate without a partner and a control character
 /// are written as a question mark.
-#[tactic(auto, using(crate::proofs::Characters::shown_first, crate::proofs::Characters::shown_none))]
 pub fn push_units(text: &mut Line, units: &[u16]) -> Result<(), AllocError>
     ensures ok { OnOk result (text.new ≡ text.old ++ shown units.now) }
 {
@@ -53,8 +52,8 @@ fn push_character(text: &mut Line, character: Option<char>) -> Result<(), AllocE
     }
 }
 
-#[tactic(auto, using(crate::proofs::Characters::chars_of_one, crate::proofs::Characters::chars_alone, crate::proofs::Characters::chars_paired))]
 // The first character, unless that is a surrogate without a partner, and how many units it has.
+#[tactic(auto, using(crate::proofs::Characters::chars_of_one, crate::proofs::Characters::chars_alone, crate::proofs::Characters::chars_paired))]
 fn first_character(units: &[u16]) -> (Option<char>, usize)
     requires { 0 < length units.now }
     ensures first { utf16_chars units.now ≡ result.0 ∷ utf16_chars (drop result.1 units.now) }
