@@ -1,5 +1,5 @@
 -- Bytes that are cut into instructions.
-use Rattle.std.proofs.Common.{◌≡◌, ◌≢◌, ◌<◌, ◌≤◌, ℕ, ◌+◌, Bool, true, false, eqb, List, [], ◌∷◌, ◌++◌, length, Result, Ok, Err, refl, sym, ap, subst, ◌∙◌, append_assoc, arith}
+use Rattle.std.proofs.Common.{◌≡◌, ◌<◌, ◌≤◌, ℕ, ◌+◌, Bool, true, false, eqb, List, [], ◌∷◌, ◌++◌, length, Ok, Err, refl, sym, ap, subst, ◌∙◌, append_assoc, arith}
 use Rattle.std.proofs.lemmas.Bool.{eqb-true, eqb-false}
 use Rattle.std.proofs.lemmas.List.{append-nil, length-append, nil_from_length}
 use Rattle.mvm_base.specs.Place.{Place}
@@ -7,10 +7,9 @@ use Rattle.mvm_classfile.specs.Answers.{Fails, IsUnsupported}
 use Rattle.mvm_classfile.specs.Opcodes.{instruction}
 use Rattle.mvm_classfile.specs.File.{AreInstructions}
 use Rattle.mvm_classfile.specs.declared.fault.ClassFault.{ClassFault}
-use Rattle.mvm_classfile.specs.declared.fault.ClassFault.TheVariants.{OutOfMemory}
 use Rattle.mvm_classfile.specs.declared.instruction.Instruction.{Instruction}
 use Rattle.mvm_classfile.specs.declared.parts.Placed.{Placed}
-use Rattle.mvm_classfile.proofs.Exactness.{Exact, Stands, done, ok_is}
+use Rattle.mvm_classfile.proofs.Exactness.{done, ok_is}
 use Rattle.mvm_classfile.proofs.Instructions.{instruction-exact}
 
 -- no instruction is spelled by no bytes

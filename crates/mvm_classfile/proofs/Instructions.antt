@@ -2,7 +2,7 @@
 use Rattle.std.proofs.Common.{ℕ, ◌-◌}
 use Rattle.std.specs.Prelude.{pos, ◌-ℤ◌}
 use Rattle.std.specs.Int.{Width, w8, w16}
-use Rattle.mvm_classfile.specs.Format.{Format, number, followed}
+use Rattle.mvm_classfile.specs.Format.{number}
 use Rattle.mvm_classfile.specs.Opcodes.{signed, constant, load, store, operation_of, condition_of, target, branch, increment, operands, instruction, second}
 use Rattle.mvm_classfile.specs.declared.instruction.Instruction.TheVariants.{Constant, Load, Store, Compute, BranchIfZero, BranchIf, Goto, Return, InvokeStatic}
 use Rattle.mvm_classfile.proofs.Exactness.{Exact, number-exact, given-exact, followed-exact, mapped-exact, choose-exact, refused-exact}

@@ -1,6 +1,6 @@
 -- The parts of a class file are read as they are spelled.
 use Rattle.std.proofs.Common.{ℕ, ◌-◌}
-use Rattle.mvm_classfile.specs.Format.{Format, bytes, number, followed, passing, times}
+use Rattle.mvm_classfile.specs.Format.{bytes, number, followed, times}
 use Rattle.mvm_classfile.specs.Opcodes.{second}
 use Rattle.mvm_classfile.specs.File.{utf8, tagged, item, pool, none, one, instructions, code, code_of, attribute, method, method_of, magic, members, parts_of, layout}
 use Rattle.mvm_classfile.specs.declared.parts.Item.TheVariants.{Utf8, Class, Methodref, NameAndType}

@@ -1,5 +1,5 @@
 -- The parts between the slashes of a name, in one pass.
-use Rattle.std.proofs.Common.{◌≡◌, ℕ, Bool, true, false, not, ◌&&◌, cond, eqb, List, [], ◌∷◌, refl, sym, ap, ◌∙◌, arith}
+use Rattle.std.proofs.Common.{◌≡◌, ℕ, Bool, true, false, not, ◌&&◌, cond, eqb, List, [], ◌∷◌, refl}
 use Rattle.std.specs.List.{list_all}
 use Rattle.mvm_classfile.specs.ClassName.{with_first, parts_of, is_name_unit, is_part}
 

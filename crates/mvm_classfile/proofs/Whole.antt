@@ -1,17 +1,17 @@
 -- The class files, as a whole, are read as they are spelled.
-use Rattle.std.proofs.Common.{◌≡◌, ◌≢◌, ◌≤◌, ℕ, ◌+◌, Bool, true, false, IsTrue, eqb, List, [], ◌∷◌, ◌++◌, length, take, Result, Ok, Err, refl, sym, ap, subst, ◌∙◌, arith}
+use Rattle.std.proofs.Common.{◌≡◌, ℕ, ◌+◌, true, false, IsTrue, eqb, List, [], ◌++◌, length, Ok, Err, refl, sym, ap, subst, ◌∙◌}
 use Rattle.std.proofs.lemmas.Bool.{eqb-true}
-use Rattle.std.proofs.lemmas.List.{append-nil, length-append, nil_from_length, take_at}
+use Rattle.std.proofs.lemmas.List.{append-nil, nil_from_length}
 use Rattle.std.proofs.lemmas.Slice.Eq.{bytes_eq-Decides}
 use Rattle.mvm_base.specs.Place.{Place}
 use Rattle.mvm_classfile.specs.Answers.{Fails, IsUnsupported}
-use Rattle.mvm_classfile.specs.Format.{Format, ◌>>=◌, kept}
+use Rattle.mvm_classfile.specs.Format.{kept}
 use Rattle.mvm_classfile.specs.File.{layout, magic, magic_bytes, parsed, is_first_form, HasSoundCode, class_of, Reads, HasOtherMagic, Says}
 use Rattle.mvm_classfile.specs.declared.fault.ClassFault.{ClassFault}
 use Rattle.mvm_classfile.specs.declared.fault.ClassFault.TheVariants.{Magic, Unsupported, OutOfMemory}
 use Rattle.mvm_classfile.specs.declared.parts.Parts.{Parts}
 use Rattle.mvm_classfile.specs.declared.parts.ClassFile.{ClassFile}
-use Rattle.mvm_classfile.proofs.Exactness.{Exact, Stands, done, ok_is, bind_ok, bind_err, kept_ok, kept_again, kept_refuses}
+use Rattle.mvm_classfile.proofs.Exactness.{done, ok_is, bind_ok, bind_err, kept_ok, kept_refuses}
 use Rattle.mvm_classfile.proofs.Layouts.{layout-exact}
 
 parsed-sound : (text : List ℕ) (parts : Parts) → parsed text ≡ Ok parts → layout.spells parts text

@@ -1,5 +1,5 @@
 -- Which names a class may have.
-use Rattle.std.specs.Prelude.{ℕ, List, [], ◌∷◌, length, Bool, true, false, not, ◌&&◌, ◌==◌, nat_eq, nat_le, if◌then◌else◌, codes}
+use Rattle.std.specs.Prelude.{ℕ, List, [], ◌∷◌, length, Bool, false, not, ◌&&◌, ◌==◌, nat_eq, nat_le, if◌then◌else◌, codes}
 use Rattle.std.specs.List.{list_all, list_any, starts_with}
 
 abbrev pub with_first : ℕ → List (List ℕ) → List (List ℕ)

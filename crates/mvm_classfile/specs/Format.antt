@@ -1,6 +1,6 @@
 -- Formats: how a value is read, and which bytes spell it. Each reads front to back; what spells a value is said by whole
 -- lists. That the two agree is proved once for each way of putting formats together.
-use Rattle.std.specs.Prelude.{◌≡◌, ℕ, zero, suc, ◌+◌, List, [], ◌∷◌, ◌++◌, length, Bool, true, false, IsTrue, Result, Ok, Err}
+use Rattle.std.specs.Prelude.{◌≡◌, ℕ, zero, suc, List, [], ◌∷◌, ◌++◌, length, Bool, true, false, IsTrue, Result, Ok, Err}
 use Rattle.mvm_base.specs.Endian.{big_number}
 use Rattle.mvm_base.specs.Place.{Place, run, big}
 use Rattle.mvm_classfile.specs.declared.fault.ClassFault.{ClassFault}

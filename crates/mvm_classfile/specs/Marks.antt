@@ -1,5 +1,5 @@
 -- A table of marks, one for each place of a method's code.
-use Rattle.std.specs.Prelude.{ℕ, ℤ, pos, negsuc, List, Bool, true, false, get_or}
+use Rattle.std.specs.Prelude.{ℤ, pos, negsuc, List, Bool, false, get_or}
 
 -- whether the place has a mark
 abbrev pub marked : List Bool → ℤ → Bool

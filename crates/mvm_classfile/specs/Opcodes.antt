@@ -1,5 +1,5 @@
 -- The instructions, by opcode (JVM Specification 6.5).
-use Rattle.std.specs.Prelude.{◌≡◌, ℕ, ◌-◌, ℤ, pos, ◌+ℤ◌, ◌-ℤ◌, nat_le, ◌&&◌, ◌||◌, ◌==◌, Bool, if◌then◌else◌, List, drop, Option, Some, None, Result, Ok, Err}
+use Rattle.std.specs.Prelude.{ℕ, ◌-◌, ℤ, pos, ◌+ℤ◌, ◌-ℤ◌, nat_le, ◌&&◌, ◌||◌, ◌==◌, Bool, if◌then◌else◌, List, drop, Option, Some, None, Result, Ok, Err}
 use Rattle.std.specs.Int.{Width, w8, w16, cast_signed}
 use Rattle.mvm_base.specs.Place.{Place}
 use Rattle.mvm_classfile.specs.Format.{Format, number, given, followed, mapped, choose, refused}

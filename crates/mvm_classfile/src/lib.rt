@@ -24,3 +24,6 @@ pub use instruction::{Arithmetic, Condition, Instruction};
 pub use opcodes::At;
 pub use parts::{ClassFile, Item, Method, Parts, Placed};
 pub use read::read_class;
+
+#[cfg(test)]
+mod tests;
