@@ -9,48 +9,37 @@ mod outcome;
 mod refusal;
 mod report;
 #[cfg(test)]
+mod rows;
+#[cfg(test)]
 mod tests;
 mod texts;
 
 use launch::launch;
+use mvm_base::OutOfMemory;
 use mvm_outside::{FolderStore, NoGate, ReadSource, WriteSink};
 use outcome::What;
 use refusal::refusal_text;
 use std::process::ExitCode;
 use std::{env, io};
 
-/// The status where memory ran out.
+/// The status where memory ran out before there was a call.
 const OUT_OF_MEMORY: u8 = 6;
 
 fn main(rt: HostRuntime) -> ExitCode {
-    let alloc = rt.alloc();
     let Ok(words) = words_of(&rt) else {
-        let _ = eprintln!(rt; "out of memory");
+        complain(&rt, &What::OutOfMemory);
         return ExitCode::from(OUT_OF_MEMORY);
     };
     let ended = launch(
         &rt,
-        alloc,
+        rt.alloc(),
         words.as_slice(),
         &mut ReadSource::new(rt.stdin()),
         &mut FolderStore::new(&rt),
         &mut WriteSink::new(rt.stdout()),
         &NoGate,
     );
-    match &ended.what {
-        What::Ran(_) => {}
-        What::Refused(refusal) => match refusal_text(alloc, refusal) {
-            Ok(text) => {
-                let _ = eprintln!(rt; "{}", text.as_str());
-            }
-            Err(_) => {
-                let _ = eprintln!(rt; "out of memory");
-            }
-        },
-        What::OutOfMemory => {
-            let _ = eprintln!(rt; "out of memory");
-        }
-    }
+    complain(&rt, &ended.what);
     ExitCode::from(ended.status)
 }
 
@@ -61,4 +50,16 @@ fn words_of(rt: &HostRuntime) -> io::Result<Vec<String>> {
         words.push(word)?;
     }
     Ok(words)
+}
+
+/// Tells on standard error why there was no run to the end. Where that can't be told, the status tells it alone.
+fn complain(rt: &HostRuntime, what: &What) {
+    let _ = match what {
+        What::Ran(_) => Ok(()),
+        What::Refused(refusal) => match refusal_text(rt.alloc(), refusal) {
+            Ok(text) => eprintln!(rt; "{}", text.as_str()),
+            Err(OutOfMemory) => eprintln!(rt; "out of memory"),
+        },
+        What::OutOfMemory => eprintln!(rt; "out of memory"),
+    };
 }
