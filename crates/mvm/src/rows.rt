@@ -28,6 +28,9 @@ const MAIN: [u8; 180] = [
 const REPORT: &str =
     "isolate 0 Main\nend exit 0\noutput 20\n0\n1\n2\n3\n4\n5\n6\n7\n8\n9\ndone 0\n";
 
+const VERIFY_ERROR: &str =
+    "isolate 0 Main\nend exit 1\nuncaught 0 java/lang/VerifyError\noutput 0\ndone 1\n";
+
 // The class with one byte changed.
 fn main_with(alloc: Global, place: usize, byte: u8) -> Result<List<u8>, AllocError> {
     let mut bytes = List::from_slice(alloc, &MAIN)?;
@@ -37,19 +40,42 @@ fn main_with(alloc: Global, place: usize, byte: u8) -> Result<List<u8>, AllocErr
     Ok(bytes)
 }
 
-// The answer over a source of these bytes whose first call fails or not, and a sink that takes at most so many bytes a call.
-fn launched<R: Threads + Sync>(
+// What a call answers, with what the sink took.
+#[derive(Drop)]
+struct Answer {
+    status: u8,
+    refusal: Option<Refusal>,
+    taken: List<u8>,
+}
+
+// A call over these bytes, of whose reads and writes those of these numbers fail, into a sink that takes so many bytes a call.
+fn call<R: Threads + Sync>(
     rt: &R,
     alloc: Global,
-    words: &[String],
+    word: &str,
     bytes: List<u8>,
     failing_reads: &[u64],
-    out: &mut MemorySink,
-) -> Result<Ended, AllocError> {
-    let failing = List::from_slice(alloc, failing_reads)?;
-    let mut source = MemorySource::new(bytes, failing);
+    most: usize,
+    failing_writes: &[u64],
+) -> Result<Answer, AllocError> {
+    let words = [String::from_str(alloc, word)?];
+    let mut source = MemorySource::new(bytes, List::from_slice(alloc, failing_reads)?);
     let mut store = MemoryStore::new(List::new(alloc), List::new(alloc));
-    Ok(launch(rt, alloc, words, &mut source, &mut store, out, &NoGate))
+    let mut sink = MemorySink::new(alloc, most, List::from_slice(alloc, failing_writes)?);
+    let ended = launch(
+        rt,
+        alloc,
+        &words,
+        &mut source,
+        &mut store,
+        &mut sink,
+        &NoGate,
+    );
+    Ok(Answer {
+        status: ended.status,
+        refusal: refusal_of(&ended),
+        taken: List::from_slice(alloc, sink.as_slice())?,
+    })
 }
 
 fn refusal_of(ended: &Ended) -> Option<Refusal> {
@@ -59,114 +85,118 @@ fn refusal_of(ended: &Ended) -> Option<Refusal> {
     }
 }
 
+// The report of a run of the class with one byte changed.
+fn report_with<R: Threads + Sync>(
+    rt: &R,
+    alloc: Global,
+    place: usize,
+    byte: u8,
+) -> Result<Answer, AllocError> {
+    let bytes = main_with(alloc, place, byte)?;
+    call(rt, alloc, "run", bytes, &[], usize::MAX, &[])
+}
+
 #[test]
 fn runs(rt: HostRuntime) -> Result<(), Fail> {
-    let alloc = rt.alloc();
-    let words = [String::from_str(alloc, "run")?];
-    let mut endless = String::from_str(alloc, "isolate 0 Main\nend limit output\noutput 65536\n")?;
+    let whole = report_with(&rt, rt.alloc(), 0, 0xca)?;
+    assert_eq!(rt; whole.taken.as_slice(), REPORT.as_bytes());
+    assert_eq!(rt; (whole.status, whole.refusal), (0, None));
+
+    let max_stack_1 = report_with(&rt, rt.alloc(), 148, 0x01)?;
+    assert_eq!(rt; max_stack_1.taken.as_slice(), VERIFY_ERROR.as_bytes());
+    assert_eq!(rt; (max_stack_1.status, max_stack_1.refusal), (1, None));
+    Ok(())
+}
+
+#[test]
+fn runs_into_the_limit_of_output(rt: HostRuntime) -> Result<(), Fail> {
+    let mut endless = String::from_str(
+        rt.alloc(),
+        "isolate 0 Main\nend limit output\noutput 65536\n",
+    )?;
     for _ in 0..32_768 {
         endless.push_str("0\n")?;
     }
     endless.push_str("done 1\n")?;
-    let verify_error =
-        "isolate 0 Main\nend exit 1\nuncaught 0 java/lang/VerifyError\noutput 0\ndone 1\n";
-    let rows = [
-        (0, 0xca, 0, REPORT), // as it is
-        (148, 0x01, 1, verify_error), // max_stack 1
-        (169, 0x00, 1, endless.as_str()), // iinc by 0
-    ];
-    for (place, byte, status, text) in rows {
-        let mut sink = MemorySink::new(alloc, usize::MAX, List::new(alloc));
-        let ended = launched(
-            &rt,
-            alloc,
-            &words,
-            main_with(alloc, place, byte)?,
-            &[],
-            &mut sink,
-        )?;
-        assert_eq!(rt; ended.status, status, "with {byte} at {place}");
-        assert!(rt; matches!(ended.what, What::Ran(_)));
-        assert_eq!(rt; sink.as_slice(), text.as_bytes());
-    }
+    let iinc_by_0 = report_with(&rt, rt.alloc(), 169, 0x00)?;
+    assert_eq!(rt; iinc_by_0.taken.as_slice(), endless.as_bytes());
+    assert_eq!(rt; (iinc_by_0.status, iinc_by_0.refusal), (1, None));
+    Ok(())
+}
+
+// Whether a call over these bytes is refused so, with nothing written.
+fn is_refused<R: Threads + Sync>(
+    rt: &R,
+    alloc: Global,
+    bytes: List<u8>,
+    refusal: Refusal,
+    status: u8,
+) -> Result<bool, AllocError> {
+    let answer = call(rt, alloc, "run", bytes, &[], usize::MAX, &[])?;
+    Ok(answer.refusal == Some(refusal) && answer.status == status && answer.taken.is_empty())
+}
+
+#[test]
+fn refuses_bytes(rt: HostRuntime) -> Result<(), Fail> {
+    let alloc = rt.alloc();
+    let unsupported = Refusal::Class(ClassFault::Unsupported(0));
+    let magic = Refusal::Class(ClassFault::Magic);
+    let max_locals_1 = main_with(alloc, 150, 0x01)?;
+    assert!(rt; is_refused(&rt, alloc, max_locals_1, unsupported, 4)?);
+    assert!(rt; is_refused(&rt, alloc, List::new(alloc), unsupported, 4)?);
+    let zeros = List::from_slice(alloc, &[0; 4])?;
+    assert!(rt; is_refused(&rt, alloc, zeros, magic, 4)?);
+    let long = List::from_vec(vec![in alloc; 0; 1_048_577]?);
+    assert!(rt; is_refused(&rt, alloc, long, Refusal::InputTooLong, 4)?);
     Ok(())
 }
 
 #[test]
-fn refuses(rt: HostRuntime) -> Result<(), Fail> {
-    let alloc = rt.alloc();
-    let run = [String::from_str(alloc, "run")?];
-    let unsupported = Refusal::Class(ClassFault::Unsupported(0));
-    let rows = [
-        (&run[..], main_with(alloc, 150, 0x01)?, 0, unsupported, 4), // max_locals 1
-        (&run[..], List::new(alloc), 0, unsupported, 4),
-        (
-            &run[..],
-            List::from_slice(alloc, &[0; 4])?,
-            0,
-            Refusal::Class(ClassFault::Magic),
-            4,
-        ),
-        (
-            &run[..],
-            List::from_vec(vec![in alloc; 0; 1_048_577]?),
-            0,
-            Refusal::InputTooLong,
-            4,
-        ),
-        (
-            &run[..],
-            main_with(alloc, 0, 0xca)?,
-            1,
-            Refusal::ReadFault,
-            3,
-        ),
-        (&[], main_with(alloc, 0, 0xca)?, 0, Refusal::Usage, 2),
-    ];
-    for (words, bytes, failing, refusal, status) in rows {
-        let mut sink = MemorySink::new(alloc, usize::MAX, List::new(alloc));
-        let failing_reads: &[u64] = if failing == 1 { &[0] } else { &[] };
-        let ended = launched(&rt, alloc, words, bytes, failing_reads, &mut sink)?;
-        assert_eq!(rt; refusal_of(&ended), Some(refusal));
-        assert_eq!(rt; ended.status, status);
-        assert!(rt; sink.as_slice().is_empty());
-    }
+fn refuses_words_and_failed_reads(rt: HostRuntime) -> Result<(), Fail> {
+    let main = main_with(rt.alloc(), 0, 0xca)?;
+    let failed = call(&rt, rt.alloc(), "run", main, &[0], usize::MAX, &[])?;
+    assert_eq!(rt;
+        (failed.status, failed.refusal),
+        (3, Some(Refusal::ReadFault))
+    );
+    assert!(rt; failed.taken.is_empty());
+    let main = main_with(rt.alloc(), 0, 0xca)?;
+    let other_word = call(&rt, rt.alloc(), "walk", main, &[], usize::MAX, &[])?;
+    assert_eq!(rt;
+        (other_word.status, other_word.refusal),
+        (2, Some(Refusal::Usage))
+    );
+    assert!(rt; other_word.taken.is_empty());
     Ok(())
+}
+
+// A run of the class into a sink that takes so many bytes a call and fails at these calls.
+fn written<R: Threads + Sync>(
+    rt: &R,
+    alloc: Global,
+    most: usize,
+    failing: &[u64],
+) -> Result<Answer, AllocError> {
+    let main = main_with(alloc, 0, 0xca)?;
+    call(rt, alloc, "run", main, &[], most, failing)
 }
 
 #[test]
 fn stops_where_the_sink_fails(rt: HostRuntime) -> Result<(), Fail> {
-    let alloc = rt.alloc();
-    let words = [String::from_str(alloc, "run")?];
-    let rows = [(16, Some(1), 16), (0, None, 0), (5, Some(3), 15)];
-    for (most, failing, count) in rows {
-        let mut failing_writes = List::new(alloc);
-        if let Some(call) = failing {
-            failing_writes.push(call)?;
-        }
-        let mut sink = MemorySink::new(alloc, most, failing_writes);
-        let ended = launched(
-            &rt,
-            alloc,
-            &words,
-            main_with(alloc, 0, 0xca)?,
-            &[],
-            &mut sink,
-        )?;
-        assert_eq!(rt; refusal_of(&ended), Some(Refusal::WriteFault(count)));
-        assert_eq!(rt; ended.status, 5);
-        assert_eq!(rt; sink.as_slice(), &REPORT.as_bytes()[..count as usize]);
-    }
-    let mut sink = MemorySink::new(alloc, 1, List::new(alloc));
-    let ended = launched(
-        &rt,
-        alloc,
-        &words,
-        main_with(alloc, 0, 0xca)?,
-        &[],
-        &mut sink,
-    )?;
-    assert_eq!(rt; ended.status, 0);
-    assert_eq!(rt; sink.as_slice(), REPORT.as_bytes());
+    let second = written(&rt, rt.alloc(), 16, &[1])?;
+    assert_eq!(rt;
+        (second.status, second.refusal),
+        (5, Some(Refusal::WriteFault(16)))
+    );
+    assert_eq!(rt; second.taken.as_slice(), b"isolate 0 Main\ne".as_slice());
+    let nothing = written(&rt, rt.alloc(), 0, &[])?;
+    assert_eq!(rt;
+        (nothing.status, nothing.refusal),
+        (5, Some(Refusal::WriteFault(0)))
+    );
+    assert!(rt; nothing.taken.is_empty());
+    let bytewise = written(&rt, rt.alloc(), 1, &[])?;
+    assert_eq!(rt; (bytewise.status, bytewise.refusal), (0, None));
+    assert_eq!(rt; bytewise.taken.as_slice(), REPORT.as_bytes());
     Ok(())
 }
