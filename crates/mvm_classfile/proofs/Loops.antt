@@ -1,7 +1,6 @@
 -- Values one after the other, as a loop reads them.
-use Rattle.std.proofs.Common.{◌≡◌, ℕ, suc, ◌-◌, ◌+◌, ◌<◌, List, [], ◌∷◌, ◌++◌, Result, Ok, Err, refl, sym, ap, subst, ◌∙◌, append_assoc, arith}
+use Rattle.std.proofs.Common.{◌≡◌, ℕ, suc, ◌-◌, ◌+◌, ◌<◌, List, [], ◌∷◌, ◌++◌, Result, Ok, Err, refl, sym, ap, ◌∙◌, append_assoc, arith}
 use Rattle.mvm_base.specs.Place.{Place}
-use Rattle.mvm_classfile.specs.Answers.{Fails}
 use Rattle.mvm_classfile.specs.Format.{Format, ◌>>=◌, read_times}
 use Rattle.mvm_classfile.specs.declared.fault.ClassFault.{ClassFault}
 
@@ -19,13 +18,3 @@ goes_on F front count i p n after total lt h so_far =
     let e : count - i ≡ suc (count - (i + 1)) = omega arith in
     let one : with_front front (read_times F (count - i) p) ≡ with_front (front ++ n ∷ []) (read_times F (count - (i + 1)) after) = rw (e, h) (regroup front n (read_times F (count - (i + 1)) after)) in
     sym one ∙ so_far
-
-first_fails : {A B : Type 0} (f : ClassFault) (r : Result A ClassFault) (g : A → Result B ClassFault) → Fails f r → Fails f (r >>= g)
-first_fails f r g h = λ other. rw (h other) refl
-
-pub ends : {A : Type 0} (f : ClassFault) (F : Format A) (front : List A) (count i : ℕ) (p : Place) (total : Result (List A × Place) ClassFault) → i < count → Fails f (F.read p)
-    → with_front front (read_times F (count - i) p) ≡ total → Fails f total
-ends f F front count i p total lt h so_far =
-    let e : count - i ≡ suc (count - (i + 1)) = omega arith in
-    let all : Fails f (read_times F (suc (count - (i + 1))) p) = first_fails f (F.read p) (λ x. read_times F (count - (i + 1)) x.1 >>= λ xs. Ok (x.0 ∷ xs.0, xs.1)) h in
-    subst (Fails f) so_far (first_fails f (read_times F (count - i) p) (λ x. Ok (front ++ x.0, x.1)) (rw e all))

@@ -1,10 +1,9 @@
 //! Class files (JVM Specification, chapter 4), as far as this stage reads them.
 //!
-//! To the layers above it promises: [`read_class`] answers `Ok` exactly for the bytes that the grammar
-//! `file` of `specs/File.antt` spells, with the class that they spell, and says of every other input which of the two
-//! faults it has. [`Code::instruction_at`] gives the instruction
-//! that stands at a place of a method's code. No
-//! call keeps a reference to the bytes that it was handed.
+//! To the layers above it promises: [`read_class`] answers `Ok` exactly for the bytes that `Reads` of `specs/File.antt`
+//! admits, those that spell the layout that stands there and keep its rules, with the class that they spell, and says of
+//! every other input which of the two faults it has. [`Code::instruction_at`] gives the instruction that stands at a
+//! place of a method's code. No call keeps a reference to the bytes that it was handed.
 #![tactic(auto)]
 
 mod class_name;
