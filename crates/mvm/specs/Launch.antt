@@ -1,6 +1,6 @@
 -- Which answer a call of `launch` gives, over its words, the bytes of its source, the machine, and the counts of its source and its
 -- sink.
-use Rattle.std.specs.Prelude.{◌≡◌, ◌≢◌, ℕ, ◌+◌, ◌<◌, ◌≤◌, ◌⊎◌, List, [], ◌∷◌, length, take, Option, IfSome, ⊤, Err, codes}
+use Rattle.std.specs.Prelude.{◌≡◌, ◌≢◌, ℕ, ◌<◌, ◌≤◌, ◌⊎◌, List, [], ◌∷◌, length, take, Option, IfSome, ⊤, Err, codes}
 use Rattle.std.specs.Io.KnownBytes.{Appends, IsAtEnd}
 use Rattle.mvm_outside.specs.Causes.{Rose}
 use Rattle.mvm_classfile.specs.File.{Reads, Says}
@@ -13,7 +13,6 @@ use Rattle.mvm.specs.Report.{report_text}
 use Rattle.mvm.specs.declared.outcome.Outcome.{Outcome}
 use Rattle.mvm.specs.declared.outcome.What.{What}
 use Rattle.mvm.specs.declared.outcome.What.TheVariants.{Ran, Refused, OutOfMemory}
-use Rattle.mvm.specs.declared.refusal.Refusal.{Refusal}
 use Rattle.mvm.specs.declared.refusal.Refusal.TheVariants.{Usage, ReadFault, InputTooLong, Class, WriteFault}
 
 -- a source before and after the call: the bytes that it had left, where it tells them, and its count of faults

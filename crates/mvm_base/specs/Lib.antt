@@ -1,2 +1,3 @@
+pub mod Answers
 pub mod Place
 pub use Rattle.byteorder.specs.Endian

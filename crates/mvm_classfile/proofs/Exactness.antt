@@ -4,7 +4,8 @@ use Rattle.std.proofs.lemmas.Bool.{ltb-false, le-ltb}
 use Rattle.std.proofs.lemmas.List.{take_at, drop_at, take-append-drop, length-append, length-take-le}
 use Rattle.mvm_base.specs.Endian.{big_number}
 use Rattle.mvm_base.specs.Place.{Place, run, numbered, big}
-use Rattle.mvm_classfile.specs.Format.{Format, ◌>>=◌, whole, bytes, number, given, followed, mapped, choose, refused, kept, passing, read_times, spells_times, times}
+use Rattle.mvm_base.specs.Answers.{◌>>=◌}
+use Rattle.mvm_classfile.specs.Format.{Format, whole, bytes, number, given, followed, mapped, choose, refused, kept, passing, read_times, spells_times, times}
 use Rattle.mvm_classfile.specs.declared.fault.ClassFault.{ClassFault}
 use Rattle.mvm_classfile.specs.declared.fault.ClassFault.TheVariants.{Unsupported}
 

@@ -1,7 +1,8 @@
 -- Values one after the other, as a loop reads them.
 use Rattle.std.proofs.Common.{◌≡◌, ℕ, suc, ◌-◌, ◌+◌, ◌<◌, List, [], ◌∷◌, ◌++◌, Result, Ok, Err, refl, sym, ap, ◌∙◌, append_assoc, arith}
 use Rattle.mvm_base.specs.Place.{Place}
-use Rattle.mvm_classfile.specs.Format.{Format, ◌>>=◌, read_times}
+use Rattle.mvm_base.specs.Answers.{◌>>=◌}
+use Rattle.mvm_classfile.specs.Format.{Format, read_times}
 use Rattle.mvm_classfile.specs.declared.fault.ClassFault.{ClassFault}
 
 -- what was read before, and what is still read

@@ -41,7 +41,7 @@ parsed-refuses text fault h = λ other.
 -- ---- what reading the parts answered, against a class that the text spells
 
 pub found : (text : List ℕ) (parts : Parts) (class : ClassFile) → parsed text ≡ Ok parts → IsTrue (is_first_form parts) → HasSoundCode parts → class ≡ class_of parts → Reads text class
-found text parts class p form code is = record { parts = parts; spelled = parsed-sound text parts p; form = form; placed = code.placed; cut = code.cut; sound = code.sound; class_is = is }
+found text parts class p form code is = record { parts = parts; spelled = parsed-sound text parts p; form = form; code = code; class_is = is }
 
 pub has_parts : (text : List ℕ) (parts : Parts) (class : ClassFile) → parsed text ≡ Ok parts → (r : Reads text class) → r.parts ≡ parts
 has_parts text parts class p r = ok_is r.parts parts (sym (parsed-complete text r.parts r.spelled) ∙ p)
@@ -57,7 +57,7 @@ only_form text parts class p form r = let e : is_first_form parts ≡ true = sub
 
 pub only_code : (text : List ℕ) (parts : Parts) (class : ClassFile) (fault : ClassFault) → parsed text ≡ Ok parts → (HasSoundCode parts → Fails fault (done {A = Unit {0}} tt)) → Reads text class → Fails fault (done class)
 only_code text parts class fault p h r = λ other. (
-    let code : HasSoundCode parts = subst HasSoundCode (has_parts text parts class p r) (record { placed = r.placed; cut = r.cut; sound = r.sound }) in
+    let code : HasSoundCode parts = subst HasSoundCode (has_parts text parts class p r) r.code in
     let e = h code other in absurd cc)
 
 -- ---- the first four bytes

@@ -1,18 +1,14 @@
--- What a call answered, against what a definition gives.
+-- What a call that takes memory answered, against what a definition gives.
 use Rattle.std.specs.Prelude.{◌≡◌, ◌≢◌, Result, Ok, Err}
 use Rattle.mvm_classfile.specs.declared.fault.ClassFault.{ClassFault}
 use Rattle.mvm_classfile.specs.declared.fault.ClassFault.TheVariants.{Unsupported, OutOfMemory}
-
--- The answer is what the definition gives, which also says where reading came to. After a fault nothing is said of that place.
-abbrev pub Gives : {A S : Type 0} → Result A ClassFault → Result (A × S) ClassFault → S → Type 0
-Gives (Ok x) definition new = definition ≡ Ok (x, new)
-Gives (Err fault) definition new = definition ≡ Err fault
 
 -- the definition gives this fault, if it is not want of memory, which no definition gives
 abbrev pub Fails : {A : Type 0} → ClassFault → Result A ClassFault → Type 0
 Fails fault definition = fault ≢ OutOfMemory → definition ≡ Err fault
 
--- the same as Gives, unless memory ran out
+-- The answer is what the definition gives, which also says where reading came to, unless memory ran out. After a fault nothing
+-- is said of that place.
 abbrev pub GivesInMemory : {A S : Type 0} → Result A ClassFault → Result (A × S) ClassFault → S → Type 0
 GivesInMemory (Ok x) definition new = definition ≡ Ok (x, new)
 GivesInMemory (Err fault) definition new = Fails fault definition

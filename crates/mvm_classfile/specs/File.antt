@@ -3,7 +3,8 @@ use Rattle.std.specs.Prelude.{◌≡◌, ◌≢◌, ◌≤◌, ℕ, ◌+◌, ◌
 use Rattle.std.specs.List.{list_all, list_any}
 use Rattle.std.specs.Ordering.{int_eq}
 use Rattle.std.specs.Str.{bytes_eq}
-use Rattle.mvm_classfile.specs.Format.{Format, ◌>>=◌, bytes, number, followed, mapped, choose, refused, kept, passing, times}
+use Rattle.mvm_base.specs.Answers.{◌>>=◌}
+use Rattle.mvm_classfile.specs.Format.{Format, bytes, number, followed, mapped, choose, refused, kept, passing, times}
 use Rattle.mvm_classfile.specs.Opcodes.{between, second, instruction}
 use Rattle.mvm_classfile.specs.Pool.{text, class_name, is_text, is_linked, is_println}
 use Rattle.mvm_classfile.specs.ClassName.{is_class_name}
@@ -199,9 +200,7 @@ pub record Reads (text : List ℕ) (class : ClassFile) : Type 0 where
   pub parts : Parts
   pub spelled : layout.spells parts text
   pub form : IsTrue (is_first_form parts)
-  pub placed : List Placed
-  pub cut : AreInstructions 0 placed parts.main.code.bytes
-  pub sound : IsTrue (are_sound parts.pool parts.main.code.max_locals placed)
+  pub code : HasSoundCode parts
   pub class_is : class ≡ class_of parts
 
 -- there are four bytes, and the first four are not those of a class file (4.1)

@@ -2,14 +2,10 @@
 -- lists. That the two agree is proved once for each way of putting formats together.
 use Rattle.std.specs.Prelude.{◌≡◌, ℕ, zero, suc, List, [], ◌∷◌, ◌++◌, length, Bool, true, false, IsTrue, Result, Ok, Err}
 use Rattle.mvm_base.specs.Endian.{big_number}
+use Rattle.mvm_base.specs.Answers.{◌>>=◌}
 use Rattle.mvm_base.specs.Place.{Place, run, big}
 use Rattle.mvm_classfile.specs.declared.fault.ClassFault.{ClassFault}
 use Rattle.mvm_classfile.specs.declared.fault.ClassFault.TheVariants.{Unsupported}
-
-infixl 10 ◌>>=◌
-abbrev pub ◌>>=◌ : {A B : Type 0} → Result A ClassFault → (A → Result B ClassFault) → Result B ClassFault
-(Ok x) >>= f = f x
-(Err fault) >>= f = Err fault
 
 pub record Format (A : Type 0) : Type 1 where
   -- the value at a place, with the place behind it

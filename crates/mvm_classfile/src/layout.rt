@@ -1,6 +1,7 @@
 ghost use Rattle.std.specs.Prelude.{◌≡◌, ◌<◌, ◌^◌, length, IfOk, MatchResult, Ok, Err};
 ghost use Rattle.std.specs.List.{list_all};
-ghost use Rattle.mvm_classfile.specs.Answers.{Gives, GivesInMemory};
+ghost use Rattle.mvm_base.specs.Answers.{Gives};
+ghost use Rattle.mvm_classfile.specs.Answers.{GivesInMemory};
 ghost use Rattle.mvm_classfile.specs.Format.{Format, bytes, number, times};
 ghost use Rattle.mvm_classfile.specs.Opcodes.{between};
 ghost use Rattle.mvm_classfile.specs.File.{utf8, tagged, item, pool, none, one, instructions, code, attribute, method, magic, members, layout};

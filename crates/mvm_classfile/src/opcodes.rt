@@ -1,6 +1,6 @@
 ghost use Rattle.std.specs.Prelude.{◌≡◌, ◌≤◌, ◌⊎◌};
 ghost use Rattle.std.specs.Int.{w8, w16};
-ghost use Rattle.mvm_classfile.specs.Answers.{Gives};
+ghost use Rattle.mvm_base.specs.Answers.{Gives};
 ghost use Rattle.mvm_classfile.specs.Format.{Format, number};
 ghost use Rattle.mvm_classfile.specs.Opcodes.{signed, constant, load, store, operation_of, condition_of, target, branch, increment, operands, instruction};
 

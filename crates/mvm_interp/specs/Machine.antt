@@ -1,8 +1,9 @@
 -- The machine: one class, one isolate, one thread (JVM Specification, chapters 2 and 6).
-use Rattle.std.specs.Prelude.{◌≡◌, ℕ, zero, suc, ◌+◌, ◌^◌, ℤ, pos, negsuc, List, [], ◌∷◌, ◌++◌, length, replicate, Bool, true, false, not, if◌then◌else◌, ◌==◌, nat_lt, nat_le, int_lt, Option, Some, None, Result, Ok, Err, slice_get, slice_set}
+use Rattle.std.specs.Prelude.{ℕ, zero, suc, ◌+◌, ◌^◌, ℤ, pos, negsuc, List, [], ◌∷◌, ◌++◌, length, replicate, Bool, true, false, not, if◌then◌else◌, ◌==◌, nat_lt, nat_le, int_lt, Option, Some, None, Result, Ok, Err, slice_get, slice_set}
 use Rattle.std.specs.Int.{w32, int_wrapping_add, int_wrapping_sub, int_wrapping_mul}
 use Rattle.std.specs.Ordering.{int_eq}
 use Rattle.std.specs.Fmt.{signed_decimal}
+use Rattle.mvm_base.specs.Answers.{◌>>=◌}
 use Rattle.mvm_classfile.specs.CodeParts.{CodeParts}
 use Rattle.mvm_classfile.specs.Opcodes.{fetched}
 use Rattle.mvm_classfile.specs.declared.opcodes.At.{At}
@@ -18,23 +19,6 @@ use Rattle.mvm_interp.specs.declared.ending.Ending.TheVariants.{Returned, Verify
 use Rattle.mvm_interp.specs.declared.frame.Local.{Local}
 use Rattle.mvm_interp.specs.declared.frame.Local.TheVariants.{Unset, Arguments, Int}
 use Rattle.mvm_interp.specs.declared.frame.Frame.{Frame}
-
-infixl 10 ◌>>=◌
-abbrev pub ◌>>=◌ : {A B : Type 0} → Result A Ending → (A → Result B Ending) → Result B Ending
-(Ok x) >>= f = f x
-(Err ending) >>= f = Err ending
-
--- ---- what a function did
-
--- What is left is what the definition gives, or it ends so. After an ending nothing is said of what is left.
-abbrev pub Does : {T S : Type 0} → Result T Ending → Result S Ending → S → Type 0
-Does (Ok x) definition new = definition ≡ Ok new
-Does (Err ending) definition new = definition ≡ Err ending
-
--- the same with a value
-abbrev pub Gives : {T S : Type 0} → Result T Ending → Result (T × S) Ending → S → Type 0
-Gives (Ok x) definition new = definition ≡ Ok (x, new)
-Gives (Err ending) definition new = definition ≡ Err ending
 
 -- ---- the frame (2.6)
 

@@ -2,7 +2,8 @@
 //! what a frame holds: it is emptied then.
 
 ghost use Rattle.std.specs.Prelude.{◌≡◌, OnErr, slice_get};
-ghost use Rattle.mvm_interp.specs.Machine.{Does, Gives, push, pop, int_of, stored, computed, holds, compute, load, store, increment, jump, jump_if, branch_if_zero, branch_if, print, execute, bytecode};
+ghost use Rattle.mvm_base.specs.Answers.{Does, Gives};
+ghost use Rattle.mvm_interp.specs.Machine.{push, pop, int_of, stored, computed, holds, compute, load, store, increment, jump, jump_if, branch_if_zero, branch_if, print, execute, bytecode};
 
 use crate::ending::Ending;
 use crate::frame::{Frame, Local};

@@ -1,5 +1,6 @@
 ghost use Rattle.std.specs.Prelude.{◌≡◌, [], IfOk, OnErr};
-ghost use Rattle.mvm_interp.specs.Machine.{Does, printed};
+ghost use Rattle.mvm_base.specs.Answers.{Does};
+ghost use Rattle.mvm_interp.specs.Machine.{printed};
 
 use crate::ending::Ending;
 use itoa::Buffer;

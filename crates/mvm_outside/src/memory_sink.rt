@@ -80,6 +80,9 @@ impl Sink for MemorySink {
         }
         let count = piece.len().min(self.most);
         let (front, _) = piece.split_at(count);
+        if piece.is_empty() {
+            return Ok(0);
+        }
         if count == 0 {
             self.idle = self.idle.saturating_add(1);
             return Ok(0);

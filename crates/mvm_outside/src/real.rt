@@ -74,7 +74,9 @@ impl<W: Write> Sink for WriteSink<W> {
     fn write(&mut self, piece: &[u8]) -> Result<usize, Failed> {
         match self.writer.write(piece) {
             Ok(0) => {
-                self.idle = self.idle.saturating_add(1);
+                if !piece.is_empty() {
+                    self.idle = self.idle.saturating_add(1);
+                }
                 Ok(0)
             }
             Ok(count) => Ok(count),
