@@ -52,13 +52,12 @@ struct Answer {
 fn call<R: Threads + Sync>(
     rt: &R,
     alloc: Global,
-    word: &str,
+    words: &[String],
     bytes: List<u8>,
     failing_reads: &[u64],
     most: usize,
     failing_writes: &[u64],
 ) -> Result<Answer, AllocError> {
-    let words = [String::from_str(alloc, word)?];
     let mut source = MemorySource::new(bytes, List::from_slice(alloc, failing_reads)?);
     let mut store = MemoryStore::new(List::new(alloc), List::new(alloc));
     let mut sink = MemorySink::new(alloc, most, List::from_slice(alloc, failing_writes)?);
@@ -92,8 +91,9 @@ fn report_with<R: Threads + Sync>(
     place: usize,
     byte: u8,
 ) -> Result<Answer, AllocError> {
+    let words = [String::from_str(alloc, "run")?];
     let bytes = main_with(alloc, place, byte)?;
-    call(rt, alloc, "run", bytes, &[], usize::MAX, &[])
+    call(rt, alloc, &words, bytes, &[], usize::MAX, &[])
 }
 
 #[test]
@@ -132,7 +132,8 @@ fn is_refused<R: Threads + Sync>(
     refusal: Refusal,
     status: u8,
 ) -> Result<bool, AllocError> {
-    let answer = call(rt, alloc, "run", bytes, &[], usize::MAX, &[])?;
+    let words = [String::from_str(alloc, "run")?];
+    let answer = call(rt, alloc, &words, bytes, &[], usize::MAX, &[])?;
     Ok(answer.refusal == Some(refusal) && answer.status == status && answer.taken.is_empty())
 }
 
@@ -152,21 +153,39 @@ fn refuses_bytes(rt: HostRuntime) -> Result<(), Fail> {
 }
 
 #[test]
-fn refuses_words_and_failed_reads(rt: HostRuntime) -> Result<(), Fail> {
+fn refuses_failed_reads(rt: HostRuntime) -> Result<(), Fail> {
+    let words = [String::from_str(rt.alloc(), "run")?];
     let main = main_with(rt.alloc(), 0, 0xca)?;
-    let failed = call(&rt, rt.alloc(), "run", main, &[0], usize::MAX, &[])?;
+    let failed = call(&rt, rt.alloc(), &words, main, &[0], usize::MAX, &[])?;
     assert_eq!(rt;
         (failed.status, failed.refusal),
         (3, Some(Refusal::ReadFault))
     );
     assert!(rt; failed.taken.is_empty());
-    let main = main_with(rt.alloc(), 0, 0xca)?;
-    let other_word = call(&rt, rt.alloc(), "walk", main, &[], usize::MAX, &[])?;
-    assert_eq!(rt;
-        (other_word.status, other_word.refusal),
-        (2, Some(Refusal::Usage))
-    );
-    assert!(rt; other_word.taken.is_empty());
+    Ok(())
+}
+
+// Whether a call with these words is a usage refusal, with nothing written.
+fn is_usage<R: Threads + Sync>(
+    rt: &R,
+    alloc: Global,
+    words: &[String],
+) -> Result<bool, AllocError> {
+    let main = main_with(alloc, 0, 0xca)?;
+    let answer = call(rt, alloc, words, main, &[], usize::MAX, &[])?;
+    Ok(answer.refusal == Some(Refusal::Usage) && answer.status == 2 && answer.taken.is_empty())
+}
+
+#[test]
+fn refuses_words(rt: HostRuntime) -> Result<(), Fail> {
+    let other = [String::from_str(rt.alloc(), "walk")?];
+    let two = [
+        String::from_str(rt.alloc(), "run")?,
+        String::from_str(rt.alloc(), "--statics")?,
+    ];
+    assert!(rt; is_usage(&rt, rt.alloc(), &[])?);
+    assert!(rt; is_usage(&rt, rt.alloc(), &other)?);
+    assert!(rt; is_usage(&rt, rt.alloc(), &two)?);
     Ok(())
 }
 
@@ -177,8 +196,9 @@ fn written<R: Threads + Sync>(
     most: usize,
     failing: &[u64],
 ) -> Result<Answer, AllocError> {
+    let words = [String::from_str(alloc, "run")?];
     let main = main_with(alloc, 0, 0xca)?;
-    call(rt, alloc, "run", main, &[], most, failing)
+    call(rt, alloc, &words, main, &[], most, failing)
 }
 
 #[test]
