@@ -1,3 +1,4 @@
 pub mod Answers
+pub mod ModifiedUtf8
 pub mod Place
 pub use Rattle.byteorder.specs.Endian

@@ -1,5 +1,5 @@
 //! What every other crate stands on: lists, names and lines that contracts see as plain lists, a cursor
-//! over bytes, a counter of steps, and the words that contracts share.
+//! over bytes, the modified UTF-8 of names, a counter of steps, and the words that contracts share.
 //!
 //! To the layers above it promises: each of these types is, to a clause, the value that it stands for and
 //! nothing else (no capacity, no pointer, no place in a buffer), and each call says exactly what it does to that
@@ -12,6 +12,7 @@ mod job;
 mod line;
 mod list;
 mod memory;
+mod modified_utf8;
 mod name;
 mod steps;
 
@@ -20,6 +21,7 @@ pub use job::Job;
 pub use line::Line;
 pub use list::List;
 pub use memory::OutOfMemory;
+pub use modified_utf8::{Utf8Fault, decode_mutf8, encode_mutf8};
 pub use name::Name;
 pub use steps::Steps;
 

@@ -1,3 +1,5 @@
+ghost use Rattle.std.specs.Prelude.{◌<◌, ◌^◌, length};
+
 use super::*;
 use std::test::Fail;
 
@@ -22,5 +24,38 @@ fn reads_names_and_lines(rt: HostRuntime) -> Result<(), Fail> {
     list.push(3)?;
     list.set(0, 9);
     assert_eq!(rt; list.as_slice(), [9, 2, 3].as_slice());
+    Ok(())
+}
+
+#[test]
+fn decodes_modified_utf8(rt: HostRuntime) -> Result<(), Fail> {
+    let zero = decode_mutf8(rt.alloc(), &[0xc0, 0x80])?;
+    assert_eq!(rt; zero.units(), [0].as_slice());
+    let pair = decode_mutf8(rt.alloc(), &[0xed, 0xa0, 0xbd, 0xed, 0xb8, 0x80])?;
+    assert_eq!(rt; pair.units(), [0xd83d, 0xde00].as_slice());
+    let bytes = encode_mutf8(rt.alloc(), &pair)?;
+    assert_eq!(rt;
+        bytes.as_slice(),
+        [0xed, 0xa0, 0xbd, 0xed, 0xb8, 0x80].as_slice()
+    );
+    Ok(())
+}
+
+fn is_bad(rt: HostRuntime, bytes: &[u8], place: u32) -> bool
+    requires { length bytes.now < 2 ^ 32 }
+{
+    match decode_mutf8(rt.alloc(), bytes) {
+        Err(Utf8Fault::Bad(there)) => there == place,
+        _ => false,
+    }
+}
+
+#[test]
+fn finds_bad_utf8(rt: HostRuntime) -> Result<(), Fail> {
+    assert!(rt; is_bad(rt, &[0x80], 0));
+    assert!(rt; is_bad(rt, &[0x41, 0xc1, 0x81], 1));
+    assert!(rt; is_bad(rt, &[0xe0, 0x80, 0x80], 0));
+    assert!(rt; is_bad(rt, &[0x41, 0xc3], 1));
+    assert!(rt; is_bad(rt, &[0xf0, 0x9f, 0x98, 0x80], 0));
     Ok(())
 }
