@@ -1,4 +1,4 @@
-/// Why no instruction is read at a place of a method's code.
+/// Why no instruction is read at a place of a method's code (JVM Specification 6.5).
 #[derive(Clone, Copy, Debug, PartialEq, Eq)]
 pub enum InsnFault {
     /// The code ends before the instruction does, or before it begins.

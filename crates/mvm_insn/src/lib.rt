@@ -20,3 +20,6 @@ pub use decode::insn_at;
 pub use fault::InsnFault;
 pub use parts::{At, Insn};
 pub use rows::SwitchRow;
+
+#[cfg(test)]
+mod tests;

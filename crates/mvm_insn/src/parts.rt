@@ -27,9 +27,10 @@ pub enum Insn<'a> {
     Multi { index: u16, dims: u8 },
 }
 
-/// An instruction, and the place behind it (JVM Specification 4.7.3).
+/// An instruction, and the place behind it (JVM Specification 6.5).
 #[derive(Debug, Drop)]
 pub struct At<'a> {
     pub insn: Insn<'a>,
+    /// Where the next instruction's opcode stands, if the code does not end there.
     pub next: u32,
 }
