@@ -1,0 +1,9 @@
+-- The rows of either kind of switch.
+use Rattle.std.specs.Prelude.{List}
+use Rattle.mvm_insn.specs.declared.rows.SwitchRow.{SwitchRow}
+use Rattle.mvm_insn.specs.declared.choice.Rows.{Rows}
+use Rattle.mvm_insn.specs.declared.choice.Rows.TheVariants.{Table, Lookup}
+
+abbrev pub rows_of : Rows → List SwitchRow
+rows_of (Table rows) = rows
+rows_of (Lookup rows) = rows
