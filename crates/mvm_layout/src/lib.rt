@@ -1,0 +1,17 @@
+//! The layout of class files (JVM Specification, chapter 4), read front to back without a look at what it means.
+//!
+//! To the layers above it promises: [`read_layout`] answers exactly what `laid` of `specs/Layout.antt` says of the bytes,
+//! what stands in them with the places where it stands, or their first fault; [`read_code`] the same of the content of a
+//! `Code` attribute. That `layout` reads just what it spells is a law of `proofs/Layouts.antt`. Contents of attributes are
+//! lent from the bytes.
+#![tactic(auto)]
+
+mod fault;
+mod info;
+mod parts;
+mod read;
+
+pub use fault::ClassFault;
+pub use info::{AttributeInfo, ClassInfo, CodeInfo, MemberInfo};
+pub use parts::{Code, Item, Member, Parts, Row};
+pub use read::{read_code, read_layout};
