@@ -1,0 +1,4 @@
+pub mod Pool
+pub mod Rules
+pub mod Members
+pub mod Shape

@@ -1,0 +1,198 @@
+-- Fields and methods (JVM Specification 4.2.2, 4.3, 4.5, 4.6, 4.7.2, 4.7.3): the rules that they keep, each at its place, and
+-- what of them is kept.
+use Rattle.std.specs.Prelude.{ℕ, ◌+◌, List, [], ◌∷◌, length, Bool, true, false, not, ◌&&◌, ◌||◌, ◌==◌, nat_le, if◌then◌else◌, Option, Some, None, Result, Ok, Err, codes}
+use Rattle.std.specs.Int.Bits.{bit_and}
+use Rattle.std.specs.List.{list_all, list_any, filter}
+use Rattle.std.specs.Option.{is_some, option_map}
+use Rattle.std.specs.Str.{bytes_eq}
+use Rattle.mvm_base.specs.Endian.{big_number}
+use Rattle.mvm_base.specs.Descriptor.{field_of, method_of, slots}
+use Rattle.mvm_base.specs.declared.descriptor.FieldShape.{FieldShape}
+use Rattle.mvm_base.specs.declared.descriptor.MethodShape.{MethodShape}
+use Rattle.mvm_base.specs.declared.descriptor.DescFault.{DescFault}
+use Rattle.mvm_base.specs.declared.descriptor.DescFault.TheVariants as desc_fault
+use Rattle.mvm_layout.specs.Infos.{AttributeParts}
+use Rattle.mvm_layout.specs.Layout.{code_in}
+use Rattle.mvm_layout.specs.declared.fault.ClassFault.{ClassFault}
+use Rattle.mvm_layout.specs.declared.fault.ClassFault.TheVariants.{Shape, Unsupported}
+use Rattle.mvm_layout.specs.declared.parts.Item.{Item}
+use Rattle.mvm_layout.specs.declared.parts.Item.TheVariants.{Integer, Long, Str}
+use Rattle.mvm_layout.specs.declared.parts.Code.{Code}
+use Rattle.mvm_layout.specs.declared.parts.Member.{Member}
+use Rattle.mvm_layout.specs.declared.info.MemberInfo.{MemberInfo}
+use Rattle.mvm_layout.specs.declared.info.CodeInfo.{CodeInfo}
+use Rattle.mvm_shape.specs.Pool.{entry, is_utf8, text, is_text}
+use Rattle.mvm_shape.specs.Rules.{expect, ◌and_then◌, each}
+
+-- ---- flags (4.1, 4.5, 4.6)
+
+abbrev pub has_flag : ℕ → ℕ → Bool
+has_flag flag flags = not (bit_and flags flag == 0)
+
+abbrev pub is_static : ℕ → Bool
+is_static flags = has_flag 0x0008 flags
+
+abbrev pub is_native_or_abstract : ℕ → Bool
+is_native_or_abstract flags = has_flag 0x0100 flags || has_flag 0x0400 flags
+
+-- ---- names (4.2.2)
+
+abbrev pub is_one_of : List ℕ → ℕ → Bool
+is_one_of letters unit = list_any (λ letter. unit == letter) letters
+
+-- not empty, and none of . ; [ /
+unfoldable pub is_unqualified : List ℕ → Bool
+is_unqualified name = not (length name == 0) && list_all (λ unit. not (is_one_of (codes ".;[/") unit)) name
+
+-- for a method, but for the two special ones, also none of < >
+unfoldable pub is_method_name : List ℕ → Bool
+is_method_name name =
+    bytes_eq name (codes "<init>") || bytes_eq name (codes "<clinit>")
+    || (is_unqualified name && list_all (λ unit. not (is_one_of (codes "<>") unit)) name)
+
+abbrev pub holds : (List ℕ → Bool) → Option (List ℕ) → Bool
+holds test (Some text) = test text
+holds test None = false
+
+-- ---- descriptors (4.3)
+
+abbrev pub parsed : {A : Type 0} → ℕ → (A → Bool) → Result A DescFault → Result (Unit {0}) ClassFault
+parsed at test (Ok shape) = expect (test shape) (Shape at)
+parsed at test (Err desc_fault.Float) = Err (Unsupported at)
+parsed at test (Err fault) = Err (Shape at)
+
+abbrev pub field_descriptor : ℕ → Option (List ℕ) → Result (Unit {0}) ClassFault
+field_descriptor at None = Err (Shape at)
+field_descriptor at (Some text) = parsed at (λ field. true) (field_of text)
+
+-- at most 255 slots of parameters, `this` counted, a long two (4.3.3)
+abbrev pub has_few_parameters : ℕ → MethodShape → Bool
+has_few_parameters flags method = nat_le (slots method.params + (if is_static flags then 0 else 1)) 255
+
+abbrev pub method_descriptor : ℕ → ℕ → Option (List ℕ) → Result (Unit {0}) ClassFault
+method_descriptor at flags None = Err (Shape at)
+method_descriptor at flags (Some text) = parsed at (has_few_parameters flags) (method_of text)
+
+-- ---- attributes (4.7)
+
+abbrev pub is_named : List Item → List ℕ → AttributeParts → Bool
+is_named pool name attribute = is_text name (text pool attribute.name)
+
+-- the Code attributes among these
+abbrev pub codes_among : List Item → List AttributeParts → List AttributeParts
+codes_among pool attributes = filter (is_named pool (codes "Code")) attributes
+
+-- the ConstantValue attributes among these
+abbrev pub constants_among : List Item → List AttributeParts → List AttributeParts
+constants_among pool attributes = filter (is_named pool (codes "ConstantValue")) attributes
+
+-- an entry that a field of this descriptor may have as its value at first (4.7.2)
+abbrev pub is_constant_of : Option (List ℕ) → Option Item → Bool
+is_constant_of desc (Some (Integer n)) = is_text (codes "Z") desc || is_text (codes "B") desc || is_text (codes "C") desc || is_text (codes "S") desc || is_text (codes "I") desc
+is_constant_of desc (Some (Long n)) = is_text (codes "J") desc
+is_constant_of desc (Some (Str text)) = is_text (codes "Ljava/lang/String;") desc
+is_constant_of desc _ = false
+
+-- two bytes, the index of such an entry
+abbrev pub is_constant_value : List Item → ℕ → List ℕ → Bool
+is_constant_value pool desc content = length content == 2 && is_constant_of (text pool desc) (entry pool (big_number 2 content))
+
+-- its name is a text; a ConstantValue of a static field has a value that the field may have
+unfoldable pub field_attribute : List Item → MemberInfo → AttributeParts → Result (Unit {0}) ClassFault
+field_attribute pool member attribute =
+    expect (is_utf8 (entry pool attribute.name)
+        && (not (is_named pool (codes "ConstantValue") attribute && is_static member.flags) || is_constant_value pool member.desc attribute.content)) (Shape attribute.at)
+
+-- its name is a text
+unfoldable pub named_attribute : List Item → AttributeParts → Result (Unit {0}) ClassFault
+named_attribute pool attribute = expect (is_utf8 (entry pool attribute.name)) (Shape attribute.at)
+
+-- the content of a Code attribute is code, whose attributes have names
+abbrev pub code_attribute : List Item → ℕ → Option CodeInfo → Result (Unit {0}) ClassFault
+code_attribute pool at None = Err (Shape at)
+code_attribute pool at (Some info) = each (named_attribute pool) info.attributes
+
+-- its name is a text; a Code is code
+unfoldable pub method_attribute : List Item → AttributeParts → Result (Unit {0}) ClassFault
+method_attribute pool attribute =
+    named_attribute pool attribute
+    and_then (if is_named pool (codes "Code") attribute then code_attribute pool attribute.at (code_in attribute) else Ok tt)
+
+-- ---- members (4.5, 4.6)
+
+abbrev pub same_text : Option (List ℕ) → Option (List ℕ) → Bool
+same_text (Some one) (Some other) = bytes_eq one other
+same_text _ _ = false
+
+-- equal name and descriptor, by their texts
+abbrev pub is_same : List Item → MemberInfo → MemberInfo → Bool
+is_same pool one other = same_text (text pool one.name) (text pool other.name) && same_text (text pool one.desc) (text pool other.desc)
+
+-- Not the second of its name and descriptor; at most one ConstantValue; static, where it is an interface's.
+unfoldable pub is_sound_field : List Item → Bool → List MemberInfo → MemberInfo → Bool
+is_sound_field pool is_interface before member =
+    not (list_any (is_same pool member) before)
+    && nat_le (length (constants_among pool member.attributes)) 1
+    && (not is_interface || is_static member.flags)
+
+unfoldable pub field_rule : List Item → Bool → List MemberInfo → MemberInfo → Result (Unit {0}) ClassFault
+field_rule pool is_interface before member =
+    expect (is_sound_field pool is_interface before member) (Shape member.at)
+    and_then expect (holds is_unqualified (text pool member.name)) (Shape (member.at + 2))
+    and_then field_descriptor (member.at + 4) (text pool member.desc)
+    and_then each (field_attribute pool member) member.attributes
+
+-- Not the second of its name and descriptor; one Code, or none where it is native or abstract.
+unfoldable pub is_sound_method : List Item → List MemberInfo → MemberInfo → Bool
+is_sound_method pool before member =
+    not (list_any (is_same pool member) before)
+    && length (codes_among pool member.attributes) == (if is_native_or_abstract member.flags then 0 else 1)
+
+-- the code of an interface is that of its class initialisation method, at this stage
+abbrev pub is_built : List Item → Bool → MemberInfo → Bool
+is_built pool is_interface member = not is_interface || is_native_or_abstract member.flags || is_text (codes "<clinit>") (text pool member.name)
+
+unfoldable pub method_rule : List Item → Bool → List MemberInfo → MemberInfo → Result (Unit {0}) ClassFault
+method_rule pool is_interface before member =
+    expect (is_sound_method pool before member) (Shape member.at)
+    and_then expect (is_built pool is_interface member) (Unsupported member.at)
+    and_then expect (holds is_method_name (text pool member.name)) (Shape (member.at + 2))
+    and_then method_descriptor (member.at + 4) member.flags (text pool member.desc)
+    and_then each (method_attribute pool) member.attributes
+
+-- ---- what is kept of a member
+
+abbrev pub first : {A : Type 0} → List A → Option A
+first [] = None
+first (x ∷ xs) = Some x
+
+abbrev pub index_in : AttributeParts → ℕ
+index_in attribute = big_number 2 attribute.content
+
+-- a static field's ConstantValue
+unfoldable pub field_part : List Item → MemberInfo → Member
+field_part pool member = record {
+  flags = member.flags;
+  name = member.name;
+  desc = member.desc;
+  constant = if is_static member.flags then option_map index_in (first (constants_among pool member.attributes)) else None;
+  code = None;
+}
+
+abbrev pub code_of_info : Option CodeInfo → Option Code
+code_of_info (Some info) = Some info.code
+code_of_info None = None
+
+abbrev pub code_of : Option AttributeParts → Option Code
+code_of (Some attribute) = code_of_info (code_in attribute)
+code_of None = None
+
+-- a method's Code
+unfoldable pub method_part : List Item → MemberInfo → Member
+method_part pool member = record {
+  flags = member.flags;
+  name = member.name;
+  desc = member.desc;
+  constant = None;
+  code = code_of (first (codes_among pool member.attributes));
+}

@@ -1,0 +1,53 @@
+-- What a class file that is laid out says, or the first fault behind its layout (JVM Specification 4.1, 4.4 to 4.7).
+use Rattle.std.specs.Prelude.{ℕ, ◌+◌, ◌*◌, List, [], map, Bool, not, ◌&&◌, ◌||◌, ◌==◌, Result, Ok, Err, codes}
+use Rattle.mvm_layout.specs.declared.fault.ClassFault.{ClassFault}
+use Rattle.mvm_layout.specs.declared.fault.ClassFault.TheVariants.{Pool, Shape}
+use Rattle.mvm_layout.specs.declared.parts.Item.{Item}
+use Rattle.mvm_layout.specs.declared.parts.Parts.{Parts}
+use Rattle.mvm_layout.specs.declared.info.ClassInfo.{ClassInfo}
+use Rattle.mvm_shape.specs.Pool.{entry, is_class, class_name, is_text, is_linked}
+use Rattle.mvm_shape.specs.Rules.{expect, ◌and_then◌, each_from, each, each_after}
+use Rattle.mvm_shape.specs.Members.{has_flag, field_rule, method_rule, named_attribute, field_part, method_part}
+
+-- the lowest entry of the constant pool with an index that names no entry of the kind that it should (4.4)
+unfoldable pub linked : List Item → Result (Unit {0}) ClassFault
+linked pool = each_from 1 (λ index item. expect (is_linked pool item) (Pool index)) pool
+
+abbrev pub is_interface : ClassInfo → Bool
+is_interface info = has_flag 0x0200 info.flags
+
+abbrev pub names_object : List Item → ℕ → Bool
+names_object pool index = is_text (codes "java/lang/Object") (class_name pool index)
+
+-- The superclass is a class; there may be none for `java/lang/Object`; that of an interface is `java/lang/Object`.
+unfoldable pub has_superclass : ClassInfo → Bool
+has_superclass info =
+    (is_class (entry info.pool info.super_class) || (info.super_class == 0 && names_object info.pool info.this_class))
+    && (not (is_interface info) || names_object info.pool info.super_class)
+
+-- the rules on what stands behind the constant pool, in the order of the places
+unfoldable pub rules : ClassInfo → Result (Unit {0}) ClassFault
+rules info =
+    expect (is_class (entry info.pool info.this_class)) (Shape (info.at + 2))
+    and_then expect (has_superclass info) (Shape (info.at + 4))
+    and_then each_from 0 (λ n index. expect (is_class (entry info.pool index)) (Shape (info.at + 8 + 2 * n))) info.interfaces
+    and_then each_after [] (field_rule info.pool (is_interface info)) info.fields
+    and_then each_after [] (method_rule info.pool (is_interface info)) info.methods
+    and_then each (named_attribute info.pool) info.attributes
+
+-- what is kept of a class file
+unfoldable pub parts_of : ClassInfo → Parts
+parts_of info = record {
+  minor = info.minor;
+  major = info.major;
+  pool = info.pool;
+  flags = info.flags;
+  this_class = info.this_class;
+  super_class = info.super_class;
+  interfaces = info.interfaces;
+  fields = map (field_part info.pool) info.fields;
+  methods = map (method_part info.pool) info.methods;
+}
+
+unfoldable pub shaped : ClassInfo → Result Parts ClassFault
+shaped info = linked info.pool and_then rules info and_then Ok (parts_of info)
