@@ -234,8 +234,8 @@ field_found (letter ∷ text) field e =
     by (Ok x) h k = end x (field_takes 0 0 (letter ∷ text) x (omega arith) h) k
     by (Err fault) h k = absurd cc
 
-first_letter : (field : FieldShape) → (length (spelled_field field) == 0) ≡ false
-first_letter field = grind (arith, nat_tests, some_letters field)
+pub some_letters : (field : FieldShape) → 0 < length (spelled_field field)
+some_letters field = omega (arith, length-append (replicate field.dims 91) (spelled_base field.base), base_letters field.base)
   where
     base_letters : (b : Base) → 0 < length (spelled_base b)
     base_letters Boolean = omega arith
@@ -246,8 +246,8 @@ first_letter field = grind (arith, nat_tests, some_letters field)
     base_letters Long = omega arith
     base_letters (Object name) = omega arith
 
-    some_letters : (f : FieldShape) → 0 < length (spelled_field f)
-    some_letters f = omega (arith, length-append (replicate f.dims 91) (spelled_base f.base), base_letters f.base)
+first_letter : (field : FieldShape) → (length (spelled_field field) == 0) ≡ false
+first_letter field = grind (arith, nat_tests, some_letters field)
 
 pub field_only : (text : List ℕ) (field : FieldShape) → IsField field → text ≡ spelled_field field → field_of text ≡ Ok field
 unfolding field_of

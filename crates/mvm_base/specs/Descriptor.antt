@@ -1,5 +1,5 @@
 -- Descriptors (JVM Specification 4.3.2 and 4.3.3): how a shape is spelled, and where a text that spells none goes wrong.
-use Rattle.std.specs.Prelude.{◌≡◌, ℕ, zero, suc, ◌+◌, ◌<◌, ◌≤◌, List, [], ◌∷◌, ◌++◌, length, drop, Bool, true, false, IsTrue, not, nat_lt, ◌&&◌, ◌||◌, ◌==◌, if◌then◌else◌, flat_map, replicate, Option, Some, None, Result, Ok, Err}
+use Rattle.std.specs.Prelude.{◌≡◌, ℕ, zero, suc, ◌+◌, ◌<◌, ◌≤◌, List, [], ◌∷◌, ◌++◌, length, drop, Bool, true, false, IsTrue, not, nat_lt, ◌&&◌, ◌||◌, ◌==◌, if◌then◌else◌, flat_map, replicate, sum_by, All, IfSome, Option, Some, None, Result, Ok, Err}
 use Rattle.mvm_base.specs.Letters.{Letters}
 use Rattle.mvm_base.specs.Answers.{◌>>=◌}
 use Rattle.mvm_base.specs.declared.descriptor.Base.{Base}
@@ -50,6 +50,23 @@ IsBase base = Unit {0}
 
 abbrev pub IsField : FieldShape → Type 0
 IsField field = (field.dims < 256) × IsBase field.base
+
+-- the parameters, and the result if there is one
+abbrev pub IsMethod : MethodShape → Type 0
+IsMethod method = All IsField method.params × IfSome method.result IsField
+
+-- ---- how many slots a value takes
+
+abbrev pub is_long : Base → Bool
+is_long Long = true
+is_long base = false
+
+-- two for a long, one for any other
+unfoldable pub slots_of : FieldShape → ℕ
+slots_of field = if field.dims == 0 && is_long field.base then 2 else 1
+
+abbrev pub slots : List FieldShape → ℕ
+slots params = sum_by slots_of params
 
 -- ---- how a text is read, or its first fault
 

@@ -1,5 +1,5 @@
 ghost use Rattle.std.specs.Prelude.{◌≡◌, ◌<◌, ◌^◌, ◌∷◌, [], ◌+◌, length, drop, ◌==◌, true, false, Ok, Err, Option, Some, None, IfOk, IfSome, IfNone};
-ghost use Rattle.mvm_base.specs.Descriptor.{spelled_field, IsField, is_next, params_in, result_in, method_in, method_of, is_misplaced, name_in, object_in, plain, base_in, field_in, field_of, Parses, ParsesTo};
+ghost use Rattle.mvm_base.specs.Descriptor.{spelled_field, spelled_method, IsField, IsMethod, slots_of, slots, is_next, params_in, result_in, method_in, method_of, is_misplaced, name_in, object_in, plain, base_in, field_in, field_of, Parses, ParsesTo};
 
 use crate::list::List;
 use crate::name::Name;
@@ -48,6 +48,35 @@ pub struct FieldShape {
 pub struct MethodShape {
     pub params: List<FieldShape>,
     pub result: Option<FieldShape>,
+}
+
+impl FieldShape {
+    /// How many slots a value of this type takes: two for a long, one for any other (JVM Specification 4.3.3).
+    #[tactic(auto, unfolding(crate::specs::Descriptor::slots_of))]
+    pub fn slots(&self) -> u8
+        ensures { result ≡ slots_of self.now }
+    {
+        if self.dims == 0 && matches!(self.base, Base::Long) {
+            2
+        } else {
+            1
+        }
+    }
+}
+
+impl MethodShape {
+    /// How many slots the parameters take: two for a long, one for any other (JVM Specification 4.3.3).
+    pub fn slots(&self) -> u64
+        requires { length self.now.params < 2 ^ 32 }
+        ensures { result ≡ slots self.now.params }
+    {
+        let params = self.params.as_slice();
+        let mut slots: u64 = 0;
+        for i in 0..params.len() {
+            slots += u64::from(params[i].slots());
+        }
+        slots
+    }
 }
 
 /// Why a text is no descriptor: its first fault from the left. Places are counted in units from 0.
@@ -317,8 +346,14 @@ fn whole_method(alloc: Global, text: &Name) -> Result<MethodShape, DescFault>
 /// The shape that a method descriptor spells (JVM Specification 4.3.3), or its first fault.
 pub fn parse_method(alloc: Global, text: &Name) -> Result<MethodShape, DescFault>
     requires { length text.now < 2 ^ 32 }
+    // What is parsed is spelled so.
+    ensures found { IfOk result (λ method. IsMethod method × (text.now ≡ spelled_method method)) }
+    // What is spelled so is parsed, unless memory runs out.
+    ensures only { (method : MethodShape) → IsMethod method → text.now ≡ spelled_method method → Parses result (Ok method) }
     // Which fault it is.
     ensures exact { Parses result (method_of text.now) }
+    // Each parameter takes a letter at least.
+    ensures short { IfOk result (λ method. length method.params < 2 ^ 32) }
 {
     whole_method(alloc, text)
 }
