@@ -1,4 +1,6 @@
 pub mod Answers
+pub mod Descriptor
+pub mod Letters
 pub mod ModifiedUtf8
 pub mod Place
 pub use Rattle.byteorder.specs.Endian

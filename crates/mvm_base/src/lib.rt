@@ -8,6 +8,7 @@
 #![tactic(auto)]
 
 mod cursor;
+mod descriptor;
 mod job;
 mod line;
 mod list;
@@ -17,6 +18,7 @@ mod name;
 mod steps;
 
 pub use cursor::Cursor;
+pub use descriptor::{Base, DescFault, FieldShape, Kind, MethodShape, Word, parse_field, parse_method};
 pub use job::Job;
 pub use line::Line;
 pub use list::List;

@@ -59,3 +59,36 @@ fn finds_bad_utf8(rt: HostRuntime) -> Result<(), Fail> {
     assert!(rt; is_bad(rt, &[0xf0, 0x9f, 0x98, 0x80], 0));
     Ok(())
 }
+
+fn is_fault(rt: HostRuntime, text: &str, fault: DescFault) -> bool
+    requires { length text.now < 2 ^ 32 }
+{
+    match Name::from_ascii(rt.alloc(), text) {
+        Ok(name) => match parse_field(rt.alloc(), &name) {
+            Ok(_) => false,
+            Err(there) => there == fault,
+        },
+        Err(_) => false,
+    }
+}
+
+#[test]
+fn parses_fields(rt: HostRuntime) -> Result<(), Fail> {
+    let name = Name::from_ascii(rt.alloc(), "[[I")?;
+    let field = parse_field(rt.alloc(), &name)?;
+    assert_eq!(rt; field.dims, 2);
+    assert!(rt; field.base == Base::Int);
+    Ok(())
+}
+
+#[test]
+fn finds_faults_of_fields(rt: HostRuntime) -> Result<(), Fail> {
+    assert!(rt; is_fault(rt, "", DescFault::Empty));
+    assert!(rt; is_fault(rt, "Q", DescFault::BadLetter(0)));
+    assert!(rt; is_fault(rt, "Lx", DescFault::Open));
+    assert!(rt; is_fault(rt, "II", DescFault::Trailing));
+    assert!(rt; is_fault(rt, "D", DescFault::Float));
+    assert!(rt; is_fault(rt, "L/x;", DescFault::BadLetter(1)));
+    assert!(rt; is_fault(rt, "Lx/;", DescFault::BadLetter(3)));
+    Ok(())
+}
