@@ -14,7 +14,7 @@ use std::alloc::Global;
 /// The parts of a class file that is laid out, without the attributes that are passed over, or its first fault. It takes
 /// time in proportion to n log n for n bytes, and memory in proportion to them.
 pub fn shape<'a>(_alloc: Global, _info: ClassInfo<'a>) -> Result<Parts, ClassFault>
-    ensures { AnswersInMemory result (shaped _info) }
+    ensures { AnswersInMemory result (shaped _info.entry) }
 {
     Err(ClassFault::OutOfMemory)
 }
