@@ -1,8 +1,8 @@
 -- What is read of a descriptor is spelled so, and what is spelled so is read.
-use Rattle.std.proofs.Common.{◌≡◌, ℕ, zero, suc, ◌+◌, ◌-◌, ◌<◌, ◌≤◌, ◌^◌, Bool, true, false, not, ◌&&◌, ◌||◌, ◌==◌, cond, eqb, ltb, IsTrue, List, [], ◌∷◌, ◌++◌, length, replicate, IfOk, Option, Some, None, Result, Ok, Err, refl, sym, ap, subst, ◌∙◌, append_assoc, append-nil, length-append, arith}
+use Rattle.std.proofs.Common.{◌≡◌, ℕ, zero, suc, ◌+◌, ◌-◌, ◌<◌, Bool, true, false, not, ◌&&◌, ◌||◌, ◌==◌, cond, eqb, ltb, List, [], ◌∷◌, ◌++◌, length, replicate, IfOk, Option, Some, None, Result, Ok, Err, refl, sym, ap, subst, ◌∙◌, append_assoc, append-nil, length-append, arith}
 use Rattle.std.proofs.lemmas.Bool.Decides.{nat_tests}
 use Rattle.mvm_base.specs.Letters.{Letters}
-use Rattle.mvm_base.specs.Descriptor.{spelled_base, spelled_field, has_parts, is_name_letter, IsBase, IsField, with_letter, is_misplaced, name_in, plain, object, object_in, plain_or, base_in, with_dims, field_in, ended, field_of, is_next, with_field, params_in, Faults, Parses}
+use Rattle.mvm_base.specs.Descriptor.{spelled_base, spelled_field, has_parts, is_name_letter, IsBase, IsField, with_letter, is_misplaced, name_in, plain, object, plain_or, base_in, with_dims, field_in, ended, field_of, is_next, with_field, params_in, Faults, Parses}
 use Rattle.mvm_base.specs.Answers.{◌>>=◌}
 use Rattle.mvm_base.specs.declared.descriptor.Base.{Base}
 use Rattle.mvm_base.specs.declared.descriptor.Base.TheVariants.{Boolean, Byte, Char, Short, Int, Long, Object}

@@ -1,17 +1,17 @@
 -- What is read of a method descriptor is spelled so, and what is spelled so is read.
-use Rattle.std.proofs.Common.{◌≡◌, ℕ, zero, suc, ◌+◌, ◌<◌, ◌≤◌, ◌^◌, Bool, true, false, cond, eqb, ◌==◌, List, [], ◌∷◌, ◌++◌, length, drop, replicate, flat_map, All, IfSome, IfOk, Option, Some, None, Result, Ok, Err, refl, sym, ap, subst, ◌∙◌, append_assoc, append-nil, length-append, arith}
+use Rattle.std.proofs.Common.{◌≡◌, ℕ, zero, suc, ◌+◌, ◌<◌, ◌≤◌, ◌^◌, Bool, true, false, cond, ◌==◌, List, [], ◌∷◌, ◌++◌, length, drop, replicate, flat_map, All, IfSome, IfOk, Option, Some, None, Result, Ok, Err, refl, sym, ap, subst, ◌∙◌, append_assoc, append-nil, length-append, arith}
 use Rattle.std.proofs.lemmas.Bool.Decides.{nat_tests}
 use Rattle.std.proofs.lemmas.List.Elements.{All-nil, All-cons, All-head, All-tail}
 use Rattle.mvm_base.specs.Letters.{Letters}
 use Rattle.mvm_base.specs.Answers.{◌>>=◌}
-use Rattle.mvm_base.specs.Descriptor.{spelled_base, spelled_field, spelled_result, spelled_method, IsBase, IsField, IsMethod, field_in, ended, is_next, with_field, params_in, some_field, result_in, after_params, method_in, method_of, Parses}
+use Rattle.mvm_base.specs.Descriptor.{spelled_base, spelled_field, spelled_result, spelled_method, IsField, IsMethod, field_in, ended, is_next, with_field, params_in, some_field, result_in, after_params, method_in, method_of, Parses}
 use Rattle.mvm_base.specs.declared.descriptor.Base.{Base}
 use Rattle.mvm_base.specs.declared.descriptor.Base.TheVariants.{Boolean, Byte, Char, Short, Int, Long, Object}
 use Rattle.mvm_base.specs.declared.descriptor.FieldShape.{FieldShape}
 use Rattle.mvm_base.specs.declared.descriptor.MethodShape.{MethodShape}
 use Rattle.mvm_base.specs.declared.descriptor.DescFault.{DescFault}
-use Rattle.mvm_base.specs.declared.descriptor.DescFault.TheVariants.{Empty, BadLetter, Open, Trailing, Float, OutOfMemory}
-use Rattle.mvm_base.proofs.Descriptors.{Stops, FieldTakes, field_takes, field_again, some_letters}
+use Rattle.mvm_base.specs.declared.descriptor.DescFault.TheVariants.{BadLetter, Trailing}
+use Rattle.mvm_base.proofs.Descriptors.{Stops, field_takes, field_again, some_letters}
 
 -- ---- letters
 

@@ -1,5 +1,5 @@
 -- Descriptors (JVM Specification 4.3.2 and 4.3.3): how a shape is spelled, and where a text that spells none goes wrong.
-use Rattle.std.specs.Prelude.{◌≡◌, ℕ, zero, suc, ◌+◌, ◌<◌, ◌≤◌, List, [], ◌∷◌, ◌++◌, length, drop, Bool, true, false, IsTrue, not, nat_lt, ◌&&◌, ◌||◌, ◌==◌, if◌then◌else◌, flat_map, replicate, sum_by, All, IfSome, Option, Some, None, Result, Ok, Err}
+use Rattle.std.specs.Prelude.{◌≡◌, ℕ, zero, suc, ◌+◌, ◌<◌, List, [], ◌∷◌, ◌++◌, length, drop, Bool, true, false, IsTrue, not, nat_lt, ◌&&◌, ◌||◌, ◌==◌, if◌then◌else◌, flat_map, replicate, sum_by, All, IfSome, Option, Some, None, Result, Ok, Err}
 use Rattle.mvm_base.specs.Letters.{Letters}
 use Rattle.mvm_base.specs.Answers.{◌>>=◌}
 use Rattle.mvm_base.specs.declared.descriptor.Base.{Base}

@@ -46,7 +46,9 @@ impl<'a> Cursor<'a> {
 
     /// The place of the next byte.
     pub fn place(&self) -> u32
-        ensures { result ≡ self.now.at }
+        ensures value { result ≡ self.now.at }
+        // No place behind the cursor is beyond 32 bits.
+        ensures bound { result + length self.now.rest < 2 ^ 32 }
     {
         self.at
     }

@@ -9,29 +9,43 @@ use std::marker::Model;
 /// What a value on the stack or in a local is: a number of 32 bits, one of 64 bits, or a reference.
 #[derive(Clone, Copy, Debug, PartialEq, Eq)]
 pub enum Kind {
+    /// A number of 32 bits.
     Int,
+    /// A number of 64 bits.
     Long,
+    /// A reference, or null.
     Ref,
 }
 
 /// A value: a number of 32 bits, one of 64 bits, a reference to the object of a number, or the null reference.
 #[derive(Clone, Copy, Debug, PartialEq, Eq)]
 pub enum Word {
+    /// A number of 32 bits. Truth values, bytes, characters and shorts are such numbers too.
     Int(i32),
+    /// A number of 64 bits.
     Long(i64),
+    /// A reference to the object of this number.
     Ref(u32),
+    /// The reference to no object.
     Null,
 }
 
 /// What the last dimension of a field's type holds (JVM Specification 4.3.2). `Object` has the name of a class.
 #[derive(Debug, Drop, PartialEq)]
 pub enum Base {
+    /// `Z`: true or false.
     Boolean,
+    /// `B`: a number of 8 bits.
     Byte,
+    /// `C`: a UTF-16 code unit.
     Char,
+    /// `S`: a number of 16 bits.
     Short,
+    /// `I`: a number of 32 bits.
     Int,
+    /// `J`: a number of 64 bits.
     Long,
+    /// `L`, a class's name, and `;`: a reference to an object of that class. The name is spelled with slashes.
     Object(Name),
 }
 
@@ -39,14 +53,18 @@ pub enum Base {
 /// (JVM Specification 4.3.2).
 #[derive(Debug, Drop, PartialEq)]
 pub struct FieldShape {
+    /// How many dimensions the array has; 0 is no array.
     pub dims: u8,
+    /// What the last dimension holds, or what the field holds where there is none.
     pub base: Base,
 }
 
 /// The types of a method's parameters, in their order, and of its result, if it has one (JVM Specification 4.3.3).
 #[derive(Debug, Drop, PartialEq)]
 pub struct MethodShape {
+    /// The parameters' types, from the left.
     pub params: List<FieldShape>,
+    /// The result's type, or `None` for `V`.
     pub result: Option<FieldShape>,
 }
 
@@ -320,10 +338,10 @@ fn whole_rest(alloc: Global, letters: &mut Letters) -> Result<MethodShape, DescF
 {
     let params = read_params(alloc, letters)?;
     let result = read_result(alloc, letters)?;
-    if !letters.rest.is_empty() {
-        return Err(DescFault::Trailing);
+    if letters.rest.is_empty() {
+        return Ok(MethodShape { params, result });
     }
-    Ok(MethodShape { params, result })
+    Err(DescFault::Trailing)
 }
 
 #[tactic(auto, unfolding(crate::specs::Descriptor::method_of))]

@@ -1,10 +1,14 @@
 //! What every other crate stands on: lists, names and lines that contracts see as plain lists, a cursor
-//! over bytes, the modified UTF-8 of names, a counter of steps, and the words that contracts share.
+//! over bytes, the modified UTF-8 of names, descriptors, a counter of steps, and the words that contracts share.
 //!
 //! To the layers above it promises: each of these types is, to a clause, the value that it stands for and
 //! nothing else (no capacity, no pointer, no place in a buffer), and each call says exactly what it does to that
-//! value. Only a call whose `Result` can hold an `AllocError` takes memory, and where it is refused the
-//! value is as before.
+//! value. Only a call whose `Result` can hold an `AllocError`, or a fault `OutOfMemory`, takes memory, and where
+//! it is refused the value is as before.
+//!
+//! Of descriptors (JVM Specification 4.3.2 and 4.3.3) it promises: what is parsed is spelled so, what is spelled
+//! so is parsed unless memory runs out, and any other text is refused with its first fault from the left. `F` and
+//! `D` are faults of their own, since this machine does without them. A long takes two slots, any other type one.
 #![tactic(auto)]
 
 mod cursor;
@@ -18,7 +22,9 @@ mod name;
 mod steps;
 
 pub use cursor::Cursor;
-pub use descriptor::{Base, DescFault, FieldShape, Kind, MethodShape, Word, parse_field, parse_method};
+pub use descriptor::{
+    Base, DescFault, FieldShape, Kind, MethodShape, Word, parse_field, parse_method,
+};
 pub use job::Job;
 pub use line::Line;
 pub use list::List;

@@ -1,6 +1,7 @@
-ghost use Rattle.std.specs.Prelude.{◌<◌, ◌^◌, length};
+ghost use Rattle.std.specs.Prelude.{◌<◌, ◌^◌, length, IfOk};
 
 use super::*;
+use std::alloc::AllocError;
 use std::test::Fail;
 
 #[test]
@@ -88,7 +89,67 @@ fn finds_faults_of_fields(rt: HostRuntime) -> Result<(), Fail> {
     assert!(rt; is_fault(rt, "Lx", DescFault::Open));
     assert!(rt; is_fault(rt, "II", DescFault::Trailing));
     assert!(rt; is_fault(rt, "D", DescFault::Float));
+    Ok(())
+}
+
+#[test]
+fn finds_empty_parts_of_names(rt: HostRuntime) -> Result<(), Fail> {
+    assert!(rt; is_fault(rt, "L;", DescFault::BadLetter(1)));
     assert!(rt; is_fault(rt, "L/x;", DescFault::BadLetter(1)));
+    assert!(rt; is_fault(rt, "La//b;", DescFault::BadLetter(3)));
     assert!(rt; is_fault(rt, "Lx/;", DescFault::BadLetter(3)));
+    Ok(())
+}
+
+/// So many brackets, and an `I`.
+fn brackets(rt: HostRuntime, dims: usize) -> Result<Name, AllocError>
+    requires { dims < 1000 }
+    ensures { IfOk result (λ name. length name < 2 ^ 32) }
+{
+    let mut units = vec![in rt.alloc(); 0x5b; dims]?;
+    units.push(0x49)?;
+    Ok(Name::from_vec(units))
+}
+
+#[test]
+fn counts_dimensions(rt: HostRuntime) -> Result<(), Fail> {
+    let most = parse_field(rt.alloc(), &brackets(rt, 255)?)?;
+    assert_eq!(rt; most.dims, 255);
+    let too_many = brackets(rt, 256)?;
+    assert!(rt; parse_field(rt.alloc(), &too_many) == Err(DescFault::BadLetter(255)));
+    Ok(())
+}
+
+fn is_method_fault(rt: HostRuntime, text: &str, fault: DescFault) -> bool
+    requires { length text.now < 2 ^ 32 }
+{
+    match Name::from_ascii(rt.alloc(), text) {
+        Ok(name) => match parse_method(rt.alloc(), &name) {
+            Ok(_) => false,
+            Err(there) => there == fault,
+        },
+        Err(_) => false,
+    }
+}
+
+#[test]
+fn parses_methods(rt: HostRuntime) -> Result<(), Fail> {
+    let void = parse_method(rt.alloc(), &Name::from_ascii(rt.alloc(), "(I[J)V")?)?;
+    assert_eq!(rt; void.params.len(), 2);
+    assert!(rt; void.result.is_none());
+    assert_eq!(rt; void.slots(), 2);
+    let long = parse_method(rt.alloc(), &Name::from_ascii(rt.alloc(), "(JI)J")?)?;
+    assert_eq!(rt; long.slots(), 3);
+    assert!(rt; long.result.is_some());
+    Ok(())
+}
+
+#[test]
+fn finds_faults_of_methods(rt: HostRuntime) -> Result<(), Fail> {
+    assert!(rt; is_method_fault(rt, "(I", DescFault::Open));
+    assert!(rt; is_method_fault(rt, "I", DescFault::BadLetter(0)));
+    assert!(rt; is_method_fault(rt, "()VV", DescFault::Trailing));
+    assert!(rt; is_method_fault(rt, "(F)V", DescFault::Float));
+    assert!(rt; is_method_fault(rt, "()", DescFault::Open));
     Ok(())
 }

@@ -1,4 +1,4 @@
-use Rattle.std.proofs.Common.{◌≡◌, ◌-◌, length}
+use Rattle.std.proofs.Common.{◌≡◌, ◌-◌}
 use Rattle.mvm_base.specs.Descriptor.{params_in}
 use Rattle.mvm_base.proofs.Descriptors.{with_fields}
 use Rattle.mvm_base.proofs.descriptor.read_params.Given as goal
