@@ -1,7 +1,7 @@
 -- Attempts, one after the other.
 use Rattle.std.proofs.Common.{◌≡◌, ℕ, suc, List, Option, Some, None, Result, Ok, Err, IfOk, refl, sym, ap, ◌∙◌}
-use Rattle.mvm_classfile.specs.CodeParts.{CodeParts}
-use Rattle.mvm_classfile.specs.declared.parts.ClassFile.{ClassFile}
+use Rattle.mvm_first_form.specs.CodeParts.{CodeParts}
+use Rattle.mvm_first_form.specs.declared.parts.FirstForm.{FirstForm}
 use Rattle.mvm_interp.specs.Ends.{stepped_of}
 use Rattle.mvm_interp.specs.Machine.{State, began, step}
 use Rattle.mvm_interp.specs.Run.{after, next_of, RunsTo}
@@ -24,7 +24,7 @@ pub running_after : (ending : Option Ending) → stepped_of ending ≡ Ran → e
 running_after None e = refl
 running_after (Some ending) e = absurd cc
 
-pub run_to : {E : Type 0} (class : ClassFile) (name : List ℕ) (state : State) (left : Result Block E) → name ≡ class.name → (n : ℕ) × (state ≡ after class.main n)
+pub run_to : {E : Type 0} (class : FirstForm) (name : List ℕ) (state : State) (left : Result Block E) → name ≡ class.name → (n : ℕ) × (state ≡ after class.main n)
     → IfOk left (IsBlockOf name state state.ending) → IfOk left (RunsTo class)
 run_to class name state (Ok block) same there h =
     let named : IsBlockOf class.name state state.ending block = rw (← same) h in

@@ -4,15 +4,15 @@ use Rattle.std.specs.Int.{w32, int_wrapping_add, int_wrapping_sub, int_wrapping_
 use Rattle.std.specs.Ordering.{int_eq}
 use Rattle.std.specs.Fmt.{signed_decimal}
 use Rattle.mvm_base.specs.Answers.{◌>>=◌}
-use Rattle.mvm_classfile.specs.CodeParts.{CodeParts}
-use Rattle.mvm_classfile.specs.Opcodes.{fetched}
-use Rattle.mvm_classfile.specs.declared.opcodes.At.{At}
-use Rattle.mvm_classfile.specs.declared.instruction.Arithmetic.{Arithmetic}
-use Rattle.mvm_classfile.specs.declared.instruction.Arithmetic.TheVariants.{Add, Subtract, Multiply}
-use Rattle.mvm_classfile.specs.declared.instruction.Condition.{Condition}
-use Rattle.mvm_classfile.specs.declared.instruction.Condition.TheVariants.{Equal, NotEqual, Less, GreaterOrEqual, Greater, LessOrEqual}
-use Rattle.mvm_classfile.specs.declared.instruction.Instruction.{Instruction}
-use Rattle.mvm_classfile.specs.declared.instruction.Instruction.TheVariants.{Constant, Load, Store, Compute, Increment, BranchIfZero, BranchIf, Goto, Return, InvokeStatic}
+use Rattle.mvm_first_form.specs.CodeParts.{CodeParts}
+use Rattle.mvm_first_form.specs.Opcodes.{fetched}
+use Rattle.mvm_first_form.specs.declared.opcodes.At.{At}
+use Rattle.mvm_first_form.specs.declared.instruction.Arithmetic.{Arithmetic}
+use Rattle.mvm_first_form.specs.declared.instruction.Arithmetic.TheVariants.{Add, Subtract, Multiply}
+use Rattle.mvm_first_form.specs.declared.instruction.Condition.{Condition}
+use Rattle.mvm_first_form.specs.declared.instruction.Condition.TheVariants.{Equal, NotEqual, Less, GreaterOrEqual, Greater, LessOrEqual}
+use Rattle.mvm_first_form.specs.declared.instruction.Instruction.{Instruction}
+use Rattle.mvm_first_form.specs.declared.instruction.Instruction.TheVariants.{Constant, Load, Store, Compute, Increment, BranchIfZero, BranchIf, Goto, Return, InvokeStatic}
 use Rattle.mvm_interp.specs.Stack.{Stack}
 use Rattle.mvm_interp.specs.declared.ending.Ending.{Ending}
 use Rattle.mvm_interp.specs.declared.ending.Ending.TheVariants.{Returned, VerifyError, StepLimit, OutputLimit}

@@ -1,7 +1,7 @@
 -- A whole run.
 use Rattle.std.specs.Prelude.{ℕ, zero, suc, Option, Some, None}
-use Rattle.mvm_classfile.specs.CodeParts.{CodeParts}
-use Rattle.mvm_classfile.specs.declared.parts.ClassFile.{ClassFile}
+use Rattle.mvm_first_form.specs.CodeParts.{CodeParts}
+use Rattle.mvm_first_form.specs.declared.parts.FirstForm.{FirstForm}
 use Rattle.mvm_interp.specs.Machine.{State, began, step}
 use Rattle.mvm_interp.specs.Task.{IsBlockOf}
 use Rattle.mvm_interp.specs.declared.ending.Ending.{Ending}
@@ -21,6 +21,6 @@ after code zero = began code
 after code (suc n) = next code (after code n)
 
 -- the block is that of the class's machine after the number of attempts that ends it
-pub record RunsTo (class : ClassFile) (block : Block) : Type 0 where
+pub record RunsTo (class : FirstForm) (block : Block) : Type 0 where
   pub attempts : ℕ
   pub left : IsBlockOf class.name (after class.main attempts) (after class.main attempts).ending block

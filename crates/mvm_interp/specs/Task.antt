@@ -1,6 +1,6 @@
 -- A task, as contracts see it, and what is left of it.
 use Rattle.std.specs.Prelude.{◌≡◌, ℕ, List, Option, Some, None}
-use Rattle.mvm_classfile.specs.CodeParts.{CodeParts}
+use Rattle.mvm_first_form.specs.CodeParts.{CodeParts}
 use Rattle.mvm_interp.specs.Machine.{State}
 use Rattle.mvm_interp.specs.Ends.{end_of, uncaught_of}
 use Rattle.mvm_interp.specs.declared.ending.Ending.{Ending}

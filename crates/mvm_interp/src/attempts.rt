@@ -5,11 +5,11 @@ use crate::block::Block;
 use crate::ending::Stepped;
 use crate::task::OneTask;
 use mvm_base::OutOfMemory;
-use mvm_classfile::ClassFile;
+use mvm_first_form::FirstForm;
 use std::alloc::Global;
 
 /// Runs the `main` of a class to its end, and gives what is left. It makes at most 100,000,001 attempts.
-pub fn run(alloc: Global, class: ClassFile) -> Result<Block, OutOfMemory>
+pub fn run(alloc: Global, class: FirstForm) -> Result<Block, OutOfMemory>
     ensures { IfOk result (RunsTo class) }
 {
     let mut task = OneTask::new(alloc, class)?;

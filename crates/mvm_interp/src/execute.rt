@@ -10,7 +10,7 @@ use crate::frame::{Frame, Local};
 use crate::operands::Operands;
 use crate::output::Output;
 use mvm_base::List;
-use mvm_classfile::{Arithmetic, Code, Condition, Instruction};
+use mvm_first_form::{Arithmetic, Code, Condition, Instruction};
 
 #[tactic(auto, unfolding(crate::specs::Machine::push))]
 fn push(operands: &mut Operands, value: i32) -> Result<(), Ending>

@@ -3,7 +3,7 @@ ghost use Rattle.mvm_interp.specs.Machine.{locals_of, first_frame, no_frame};
 
 use crate::operands::Operands;
 use mvm_base::List;
-use mvm_classfile::Code;
+use mvm_first_form::Code;
 use std::alloc::{AllocError, Global};
 
 /// What a local variable holds (JVM Specification 2.6.1).

@@ -9,7 +9,7 @@ use crate::execute::bytecode;
 use crate::frame::Frame;
 use crate::output::Output;
 use mvm_base::{List, Name, OutOfMemory};
-use mvm_classfile::{ClassFile, Code};
+use mvm_first_form::{Code, FirstForm};
 use std::alloc::{AllocError, Global};
 use std::marker::Model;
 
@@ -43,7 +43,7 @@ impl Model for OneTask {
 
 impl OneTask {
     /// The task before its first attempt.
-    pub fn new(alloc: Global, class: ClassFile) -> Result<OneTask, OutOfMemory>
+    pub fn new(alloc: Global, class: FirstForm) -> Result<OneTask, OutOfMemory>
         ensures { IfOk result (λ task. task ≡ record { name = class.name; code = class.main; state = began class.main }) }
     {
         let frame = Frame::first(alloc, &class.main)?;

@@ -2,7 +2,7 @@ ghost use Rattle.std.specs.Prelude.{◌≡◌, None};
 
 use super::*;
 use mvm_base::{List, Name, OutOfMemory};
-use mvm_classfile::{ClassFile, Code};
+use mvm_first_form::{Code, FirstForm};
 use std::alloc::Global;
 use std::test::Fail;
 
@@ -12,9 +12,9 @@ const COUNT: [u8; 19] = [
     0xff, 0xf3, 0xb1,
 ];
 
-fn count_class(alloc: Global, max_stack: u16) -> Result<ClassFile, OutOfMemory> {
+fn count_class(alloc: Global, max_stack: u16) -> Result<FirstForm, OutOfMemory> {
     let bytes = List::from_slice(alloc, &COUNT)?;
-    Ok(ClassFile {
+    Ok(FirstForm {
         name: Name::from_ascii(alloc, "Main")?,
         main: Code::new(max_stack, 2, bytes),
     })
