@@ -1,0 +1,48 @@
+-- Class files as a whole (JVM Specification, chapter 4): what bytes read as, and their first fault.
+use Rattle.std.specs.Prelude.{◌≡◌, ◌<◌, ◌^◌, ℕ, List, length, get_or, Option, Some, None, Result, Ok, Err}
+use Rattle.mvm_base.specs.Answers.{◌>>=◌}
+use Rattle.mvm_layout.specs.Layout.{layout, laid}
+use Rattle.mvm_layout.specs.declared.fault.ClassFault.{ClassFault}
+use Rattle.mvm_layout.specs.declared.fault.ClassFault.TheVariants.{OutOfMemory}
+use Rattle.mvm_layout.specs.declared.info.ClassInfo.{ClassInfo}
+use Rattle.mvm_layout.specs.declared.parts.Parts.{Parts}
+use Rattle.mvm_shape.specs.Shape.{linked, rules, parts_of, shaped}
+
+-- The bytes are the spellings of what stands in a class file, one after the other, with any attributes where attributes stand. Each
+-- entry of its constant pool is linked, all its rules are kept, and these are its parts.
+pub record Reads (text : List ℕ) (parts : Parts) : Type 0 where
+  pub info : ClassInfo
+  pub spelled : layout.spells info 0 text
+  pub linked : linked info.pool ≡ Ok tt
+  pub kept : rules info ≡ Ok tt
+  pub parts_are : parts ≡ parts_of info
+
+-- What the bytes read as, or their first fault: that of the layout, front to back; else the lowest entry of the constant pool that
+-- names none of the kind that it should; else the lowest place that keeps a rule not.
+unfoldable pub reading : List ℕ → Result Parts ClassFault
+reading text = laid text >>= shaped
+
+abbrev pub fault_in : Result Parts ClassFault → Option ClassFault
+fault_in (Ok parts) = None
+fault_in (Err fault) = Some fault
+
+-- the first fault of the bytes
+unfoldable pub fault_of : List ℕ → Option ClassFault
+fault_of text = fault_in (reading text)
+
+-- what an answer says of the bytes
+abbrev pub Says : List ℕ → Result Parts ClassFault → Type 0
+Says text (Ok parts) = Reads text parts
+Says text (Err OutOfMemory) = Unit {0}
+Says text (Err fault) = fault_of text ≡ Some fault
+
+-- the items of a list of bytes
+abbrev pub AreBytes : List ℕ → Type 0
+AreBytes text = (place : ℕ) → get_or text place 0 < 256
+
+-- some bytes, fewer than 2^32, read as these parts
+pub record IsClassFile (parts : Parts) : Type 0 where
+  pub text : List ℕ
+  pub bytes : AreBytes text
+  pub short : length text < 2 ^ 32
+  pub reads : Reads text parts

@@ -1,0 +1,31 @@
+ghost use Rattle.std.specs.Prelude.{◌≡◌};
+
+use mvm_layout::Parts;
+use std::marker::Model;
+
+/// A class file that keeps the rules of its format (JVM Specification, chapter 4): parts that some bytes, fewer than 2^32,
+/// read as.
+#[derive(Debug, Drop)]
+pub struct ClassFile {
+    parts: Parts,
+}
+
+impl Model for ClassFile {
+    ghost use Rattle.mvm_layout.specs.declared.parts.Parts.{Parts as PartsOf};
+    ghost use Rattle.mvm_classfile.specs.Reading.{IsClassFile};
+
+    ghost Value = { PartsOf };
+
+    ghost view = { λ c. c.parts };
+
+    ghost invariant = { λ c. IsClassFile c.parts };
+}
+
+impl ClassFile {
+    /// What the class file says, but for the attributes that are passed over.
+    pub fn parts(&self) -> &Parts
+        ensures { result.now ≡ self.now }
+    {
+        &self.parts
+    }
+}

@@ -1,0 +1,34 @@
+ghost use Rattle.std.specs.Prelude.{◌≡◌, ◌<◌, ◌^◌, ◌+◌, length, OnOk, Ok, Err, Some};
+ghost use Rattle.mvm_layout.specs.Answers.{AnswersInMemory};
+ghost use Rattle.mvm_layout.specs.declared.fault.ClassFault.{ClassFault as Fault};
+ghost use Rattle.mvm_layout.specs.declared.parts.Parts.{Parts as PartsOf};
+ghost use Rattle.mvm_classfile.specs.Reading.{Reads, fault_of, Says};
+
+use crate::class_file::ClassFile;
+use mvm_base::Steps;
+use mvm_layout::ClassFault;
+use std::alloc::Global;
+use std::sync::ledger::Ledger;
+
+/// The class file that the bytes are, all of them (JVM Specification, chapter 4), at one step for each, or their first fault.
+/// It takes time in proportion to n log n for n bytes and memory in proportion to them, and keeps no reference to them.
+///
+/// # Errors
+///
+/// The first fault: of the layout, front to back; else of the lowest entry of the constant pool; else at the lowest place.
+pub fn read_class<L: Ledger>(
+    _alloc: Global,
+    bytes: &[u8],
+    _steps: &mut Steps<L>,
+) -> Result<ClassFile, ClassFault>
+    requires { length bytes.now < 2 ^ 32 }
+    // What each answer says of the bytes.
+    ensures says { Says bytes.now result }
+    // A class file is read, unless memory runs out.
+    ensures reads { (parts : PartsOf) → Reads bytes.now parts → AnswersInMemory result (Ok parts) }
+    // The first fault is told, unless memory runs out.
+    ensures faults { (fault : Fault) → fault_of bytes.now ≡ Some fault → AnswersInMemory result (Err fault) }
+    ensures steps { OnOk result (_steps.new ≡ _steps.old + length bytes.now) }
+{
+    Err(ClassFault::OutOfMemory)
+}
