@@ -1,0 +1,4 @@
+pub mod Exactness
+pub mod Loops
+pub mod Texts
+pub mod Layouts

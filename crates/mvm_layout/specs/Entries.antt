@@ -62,11 +62,15 @@ takes_two (Long n) = true
 takes_two (Double n) = true
 takes_two _ = false
 
--- the entries from an index on, so many; the index behind a long or a double has no entry of its own
+-- the entry of an index; behind a long or a double it has none of its own, and no bytes
+abbrev pub entry : Bool → ℕ → Bool → Format Item
+entry true index is_last = given Upper
+entry false index is_last = item index is_last
+
+-- the entries from an index on, so many, of which the first may be the upper one of a long or a double
 abbrev pub items : Bool → ℕ → ℕ → Format (List Item)
 items is_upper index zero = given []
-items true index (suc n) = mapped (λ xs. Upper ∷ xs) (items false (index + 1) n)
-items false index (suc n) = mapped (λ x. x.0 ∷ x.1) (followed (item index (n == 0)) (λ x. items (takes_two x) (index + 1) n))
+items is_upper index (suc n) = mapped (λ x. x.0 ∷ x.1) (followed (entry is_upper index (n == 0)) (λ x. items (takes_two x) (index + 1) n))
 
 -- a count, which is one more than there are indices, and the entries from index 1 on
 unfoldable pub pool : Format (List Item)

@@ -129,6 +129,10 @@ abbrev pub read_whole : Result CodeInfo ClassFault → Option CodeInfo
 read_whole (Ok x) = Some x
 read_whole (Err fault) = None
 
--- the code that the content is, all of it, if it is any; behind the index of the name and the length
+-- the code that the content is, all of it, or the first fault; behind the index of the name and the length
+unfoldable pub code_laid : AttributeParts → Result CodeInfo ClassFault
+code_laid attribute = code.read (record { at = attribute.at + 6; rest = attribute.content }) >>= ended
+
+-- that code, if it is any
 unfoldable pub code_in : AttributeParts → Option CodeInfo
-code_in attribute = read_whole (code.read (record { at = attribute.at + 6; rest = attribute.content }) >>= ended)
+code_in attribute = read_whole (code_laid attribute)

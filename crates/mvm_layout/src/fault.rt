@@ -1,6 +1,7 @@
 ghost use Rattle.std.specs.Prelude.{◌≡◌};
 ghost use Rattle.mvm_layout.specs.declared.fault.ClassFault.TheVariants.{OutOfMemory};
 
+use mvm_base::OutOfMemory;
 use std::alloc::{AllocError, AllocFailed};
 
 /// Why bytes are no class file: the first fault. A place is counted in bytes from the beginning of the file.
@@ -37,6 +38,14 @@ impl<T: Drop> From<AllocFailed<T>> for ClassFault {
     ghost from_gives = { λ _ e. e ≡ OutOfMemory };
 
     fn from(_refused: AllocFailed<T>) -> ClassFault {
+        ClassFault::OutOfMemory
+    }
+}
+
+impl From<OutOfMemory> for ClassFault {
+    ghost from_gives = { λ _ e. e ≡ OutOfMemory };
+
+    fn from(_refused: OutOfMemory) -> ClassFault {
         ClassFault::OutOfMemory
     }
 }

@@ -1,7 +1,7 @@
 ghost use Rattle.std.specs.Prelude.{◌≡◌, ◌<◌, ◌^◌, ◌+◌, length};
 
 use crate::parts::{Code, Item};
-use mvm_base::List;
+use mvm_base::{Cursor, List};
 use std::marker::Model;
 
 /// An attribute as it stands in a file (JVM Specification 4.7): its content is lent from the bytes, and not looked into.
@@ -52,6 +52,13 @@ impl<'a> AttributeInfo<'a> {
         ensures { result.now ≡ self.now.content }
     {
         self.content
+    }
+
+    /// A cursor before the content, at its place in the file.
+    pub(crate) fn cursor(&self) -> Cursor<'a>
+        ensures { result ≡ record { at = self.now.at + 6; rest = self.now.content } }
+    {
+        Cursor::from_place(self.content, self.at + 6)
     }
 }
 

@@ -6,9 +6,13 @@
 //! lent from the bytes.
 #![tactic(auto)]
 
+mod code;
 mod fault;
 mod info;
+mod layout;
+mod numbers;
 mod parts;
+mod pool;
 mod read;
 
 pub use fault::ClassFault;

@@ -1,24 +1,65 @@
-ghost use Rattle.std.specs.Prelude.{◌≡◌, ◌<◌, ◌^◌, length, IfOk};
+ghost use Rattle.std.specs.Prelude.{◌≡◌, ◌<◌, ◌^◌, length, IfOk, Ok};
 ghost use Rattle.mvm_layout.specs.Answers.{AnswersInMemory};
-ghost use Rattle.mvm_layout.specs.Layout.{laid, code_in};
+ghost use Rattle.mvm_layout.specs.Format.{Format};
+ghost use Rattle.mvm_layout.specs.Layout.{layout, laid, code_laid, code_in};
+ghost use Rattle.mvm_layout.specs.declared.info.ClassInfo.{ClassInfo as ClassInfoOf};
 
+use crate::code::code;
 use crate::fault::ClassFault;
 use crate::info::{AttributeInfo, ClassInfo, CodeInfo};
-use mvm_base::OutOfMemory;
+use crate::layout::layout;
+use mvm_base::{Cursor, OutOfMemory};
 use std::alloc::Global;
+
+#[tactic(auto, unfolding(crate::specs::Layout::laid))]
+fn laid<'a>(alloc: Global, bytes: &'a [u8]) -> Result<ClassInfo<'a>, ClassFault>
+    requires { length bytes.now < 2 ^ 32 }
+    ensures { AnswersInMemory result (laid bytes.now) }
+{
+    let mut cursor = Cursor::new(bytes);
+    let info = layout(alloc, &mut cursor)?;
+    if !cursor.is_at_end() {
+        return Err(ClassFault::Trailing(cursor.place()));
+    }
+    Ok(info)
+}
 
 /// What stands in the bytes of a class file, all of them, or the first fault of their layout (JVM Specification 4.1). It
 /// takes time and memory in proportion to the bytes.
-pub fn read_layout<'a>(_alloc: Global, _bytes: &'a [u8]) -> Result<ClassInfo<'a>, ClassFault>
-    requires { length _bytes.now < 2 ^ 32 }
-    ensures { AnswersInMemory result (laid _bytes.now) }
+pub fn read_layout<'a>(alloc: Global, bytes: &'a [u8]) -> Result<ClassInfo<'a>, ClassFault>
+    requires { length bytes.now < 2 ^ 32 }
+    ensures exact { AnswersInMemory result (laid bytes.now) }
+    // What is read is spelled by the bytes, all of them.
+    ensures found { IfOk result (λ info. layout.spells info 0 bytes.now) }
+    // What the bytes spell is read, unless memory runs out.
+    ensures only { (info : ClassInfoOf) → layout.spells info 0 bytes.now → AnswersInMemory result (Ok info) }
 {
-    Err(ClassFault::OutOfMemory)
+    laid(alloc, bytes)
+}
+
+#[tactic(auto, unfolding(crate::specs::Layout::code_laid))]
+fn code_laid<'a>(alloc: Global, attribute: &AttributeInfo<'a>) -> Result<CodeInfo<'a>, ClassFault>
+    ensures { AnswersInMemory result (code_laid attribute.now) }
+{
+    let mut cursor = attribute.cursor();
+    let code = code(alloc, &mut cursor)?;
+    if !cursor.is_at_end() {
+        return Err(ClassFault::Trailing(cursor.place()));
+    }
+    Ok(code)
 }
 
 /// The code that the content of an attribute is, all of it, or `None` where it is none (JVM Specification 4.7.3).
-pub fn read_code<'a>(_alloc: Global, _attribute: &AttributeInfo<'a>) -> Result<Option<CodeInfo<'a>>, OutOfMemory>
-    ensures { IfOk result (λ code. code ≡ code_in _attribute.now) }
+#[tactic(auto, unfolding(crate::specs::Layout::code_in))]
+pub fn read_code<'a>(
+    alloc: Global,
+    attribute: &AttributeInfo<'a>,
+) -> Result<Option<CodeInfo<'a>>, OutOfMemory>
+    ensures { IfOk result (λ code. code ≡ code_in attribute.now) }
 {
-    Err(OutOfMemory)
+    match code_laid(alloc, attribute) {
+        Ok(code) => Ok(Some(code)),
+        Err(ClassFault::OutOfMemory) => Err(OutOfMemory),
+        Err(_) => Ok(None),
+    }
 }

@@ -1,0 +1,7 @@
+use Rattle.std.proofs.Common.{◌≡◌, ◌-◌}
+use Rattle.mvm_layout.specs.Format.{read_times, number}
+use Rattle.mvm_layout.proofs.Loops.{with_front}
+use Rattle.mvm_layout.proofs.layout.index_list.Given as goal
+
+abbrev pub invariant-loop-i : goal.invariant-loop-i
+invariant-loop-i l = with_front l.all (read_times (number 2) (l.count - l.i) l.cursor) ≡ read_times (number 2) l.count l.initial.cursor
