@@ -86,9 +86,13 @@ codes_among pool attributes = filter (is_named pool (codes "Code")) attributes
 abbrev pub constants_among : List Item → List AttributeParts → List AttributeParts
 constants_among pool attributes = filter (is_named pool (codes "ConstantValue")) attributes
 
+-- the descriptor of a boolean, byte, char, short or int
+abbrev pub is_int_text : Option (List ℕ) → Bool
+is_int_text desc = is_text (codes "Z") desc || is_text (codes "B") desc || is_text (codes "C") desc || is_text (codes "S") desc || is_text (codes "I") desc
+
 -- an entry that a field of this descriptor may have as its value at first (4.7.2)
 abbrev pub is_constant_of : Option (List ℕ) → Option Item → Bool
-is_constant_of desc (Some (Integer n)) = is_text (codes "Z") desc || is_text (codes "B") desc || is_text (codes "C") desc || is_text (codes "S") desc || is_text (codes "I") desc
+is_constant_of desc (Some (Integer n)) = is_int_text desc
 is_constant_of desc (Some (Long n)) = is_text (codes "J") desc
 is_constant_of desc (Some (Str text)) = is_text (codes "Ljava/lang/String;") desc
 is_constant_of desc _ = false

@@ -5,7 +5,11 @@
 //! is laid out, its parts or the first fault: the lowest entry of the constant pool, then the lowest place.
 #![tactic(auto)]
 
+mod attributes;
+mod facts;
 mod header;
+mod kept;
+mod members;
 mod pool;
 
 ghost use Rattle.mvm_layout.specs.Answers.{AnswersInMemory};

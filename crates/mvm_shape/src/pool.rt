@@ -37,7 +37,7 @@ fn class_name(pool: &List<Item>, index: u16) -> Option<&Name>
 }
 
 /// Whether these are the same. It looks at no unit where the lengths differ.
-fn same(units: &[u16], wanted: &[u8]) -> bool
+pub(crate) fn same(units: &[u16], wanted: &[u8]) -> bool
     ensures { result ≡ bytes_eq units.now wanted.now }
 {
     if units.len() != wanted.len() {
