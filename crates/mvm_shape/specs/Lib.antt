@@ -2,3 +2,4 @@ pub mod Pool
 pub mod Rules
 pub mod Members
 pub mod Shape
+pub mod Facts

@@ -86,9 +86,13 @@ codes_among pool attributes = filter (is_named pool (codes "Code")) attributes
 abbrev pub constants_among : List Item → List AttributeParts → List AttributeParts
 constants_among pool attributes = filter (is_named pool (codes "ConstantValue")) attributes
 
+-- the descriptor of a boolean, byte, char, short or int
+abbrev pub is_int_text : Option (List ℕ) → Bool
+is_int_text desc = is_text (codes "Z") desc || is_text (codes "B") desc || is_text (codes "C") desc || is_text (codes "S") desc || is_text (codes "I") desc
+
 -- an entry that a field of this descriptor may have as its value at first (4.7.2)
 abbrev pub is_constant_of : Option (List ℕ) → Option Item → Bool
-is_constant_of desc (Some (Integer n)) = is_text (codes "Z") desc || is_text (codes "B") desc || is_text (codes "C") desc || is_text (codes "S") desc || is_text (codes "I") desc
+is_constant_of desc (Some (Integer n)) = is_int_text desc
 is_constant_of desc (Some (Long n)) = is_text (codes "J") desc
 is_constant_of desc (Some (Str text)) = is_text (codes "Ljava/lang/String;") desc
 is_constant_of desc _ = false
@@ -128,37 +132,47 @@ same_text _ _ = false
 abbrev pub is_same : List Item → MemberInfo → MemberInfo → Bool
 is_same pool one other = same_text (text pool one.name) (text pool other.name) && same_text (text pool one.desc) (text pool other.desc)
 
+-- a member before it has its name and descriptor
+abbrev pub is_repeated : List Item → List MemberInfo → MemberInfo → Bool
+is_repeated pool before member = list_any (is_same pool member) before
+
 -- Not the second of its name and descriptor; at most one ConstantValue; static, where it is an interface's.
-unfoldable pub is_sound_field : List Item → Bool → List MemberInfo → MemberInfo → Bool
-is_sound_field pool is_interface before member =
-    not (list_any (is_same pool member) before)
+unfoldable pub is_sound_field : List Item → Bool → Bool → MemberInfo → Bool
+is_sound_field pool is_interface repeated member =
+    not repeated
     && nat_le (length (constants_among pool member.attributes)) 1
     && (not is_interface || is_static member.flags)
 
-unfoldable pub field_rule : List Item → Bool → List MemberInfo → MemberInfo → Result (Unit {0}) ClassFault
-field_rule pool is_interface before member =
-    expect (is_sound_field pool is_interface before member) (Shape member.at)
+unfoldable pub tested_field : List Item → Bool → Bool → MemberInfo → Result (Unit {0}) ClassFault
+tested_field pool is_interface repeated member =
+    expect (is_sound_field pool is_interface repeated member) (Shape member.at)
     and_then expect (holds is_unqualified (text pool member.name)) (Shape (member.at + 2))
     and_then field_descriptor (member.at + 4) (text pool member.desc)
     and_then each (field_attribute pool member) member.attributes
 
+abbrev pub field_rule : List Item → Bool → List MemberInfo → MemberInfo → Result (Unit {0}) ClassFault
+field_rule pool is_interface before member = tested_field pool is_interface (is_repeated pool before member) member
+
 -- Not the second of its name and descriptor; one Code, or none where it is native or abstract.
-unfoldable pub is_sound_method : List Item → List MemberInfo → MemberInfo → Bool
-is_sound_method pool before member =
-    not (list_any (is_same pool member) before)
+unfoldable pub is_sound_method : List Item → Bool → MemberInfo → Bool
+is_sound_method pool repeated member =
+    not repeated
     && length (codes_among pool member.attributes) == (if is_native_or_abstract member.flags then 0 else 1)
 
 -- the code of an interface is that of its class initialisation method, at this stage
 abbrev pub is_built : List Item → Bool → MemberInfo → Bool
 is_built pool is_interface member = not is_interface || is_native_or_abstract member.flags || is_text (codes "<clinit>") (text pool member.name)
 
-unfoldable pub method_rule : List Item → Bool → List MemberInfo → MemberInfo → Result (Unit {0}) ClassFault
-method_rule pool is_interface before member =
-    expect (is_sound_method pool before member) (Shape member.at)
+unfoldable pub tested_method : List Item → Bool → Bool → MemberInfo → Result (Unit {0}) ClassFault
+tested_method pool is_interface repeated member =
+    expect (is_sound_method pool repeated member) (Shape member.at)
     and_then expect (is_built pool is_interface member) (Unsupported member.at)
     and_then expect (holds is_method_name (text pool member.name)) (Shape (member.at + 2))
     and_then method_descriptor (member.at + 4) member.flags (text pool member.desc)
     and_then each (method_attribute pool) member.attributes
+
+abbrev pub method_rule : List Item → Bool → List MemberInfo → MemberInfo → Result (Unit {0}) ClassFault
+method_rule pool is_interface before member = tested_method pool is_interface (is_repeated pool before member) member
 
 -- ---- what is kept of a member
 

@@ -1,5 +1,5 @@
 -- Rules that are tested in an order: the first fault is the answer.
-use Rattle.std.specs.Prelude.{◌≡◌, ℕ, ◌+◌, List, [], ◌∷◌, Bool, true, false, Result, Ok, Err}
+use Rattle.std.specs.Prelude.{◌≡◌, ℕ, ◌+◌, List, [], ◌∷◌, ◌++◌, Bool, true, false, Result, Ok, Err}
 use Rattle.mvm_base.specs.Answers.{◌>>=◌}
 use Rattle.mvm_layout.specs.declared.fault.ClassFault.{ClassFault}
 
@@ -23,7 +23,7 @@ abbrev pub each : {A : Type 0} → (A → Result (Unit {0}) ClassFault) → List
 each rule [] = Ok tt
 each rule (x ∷ xs) = rule x and_then each rule xs
 
--- each value keeps the rule, which also looks at the values before it, the nearest first
+-- each value keeps the rule, which also looks at the values before it
 abbrev pub each_after : {A : Type 0} → List A → (List A → A → Result (Unit {0}) ClassFault) → List A → Result (Unit {0}) ClassFault
 each_after before rule [] = Ok tt
-each_after before rule (x ∷ xs) = rule before x and_then each_after (x ∷ before) rule xs
+each_after before rule (x ∷ xs) = rule before x and_then each_after (before ++ x ∷ []) rule xs

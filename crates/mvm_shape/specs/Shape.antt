@@ -25,12 +25,21 @@ has_superclass info =
     (is_class (entry info.pool info.super_class) || (info.super_class == 0 && names_object info.pool info.this_class))
     && (not (is_interface info) || names_object info.pool info.super_class)
 
+-- each direct superinterface is a class
+unfoldable pub are_interfaces : ClassInfo → Result (Unit {0}) ClassFault
+are_interfaces info = each_from 0 (λ n index. expect (is_class (entry info.pool index)) (Shape (info.at + 8 + 2 * n))) info.interfaces
+
+-- the class itself, its superclass and its superinterfaces
+unfoldable pub header : ClassInfo → Result (Unit {0}) ClassFault
+header info =
+    expect (is_class (entry info.pool info.this_class)) (Shape (info.at + 2))
+    and_then expect (has_superclass info) (Shape (info.at + 4))
+    and_then are_interfaces info
+
 -- the rules on what stands behind the constant pool, in the order of the places
 unfoldable pub rules : ClassInfo → Result (Unit {0}) ClassFault
 rules info =
-    expect (is_class (entry info.pool info.this_class)) (Shape (info.at + 2))
-    and_then expect (has_superclass info) (Shape (info.at + 4))
-    and_then each_from 0 (λ n index. expect (is_class (entry info.pool index)) (Shape (info.at + 8 + 2 * n))) info.interfaces
+    header info
     and_then each_after [] (field_rule info.pool (is_interface info)) info.fields
     and_then each_after [] (method_rule info.pool (is_interface info)) info.methods
     and_then each (named_attribute info.pool) info.attributes

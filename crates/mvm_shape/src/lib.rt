@@ -5,6 +5,13 @@
 //! is laid out, its parts or the first fault: the lowest entry of the constant pool, then the lowest place.
 #![tactic(auto)]
 
+mod attributes;
+mod facts;
+mod header;
+mod kept;
+mod members;
+mod pool;
+
 ghost use Rattle.mvm_layout.specs.Answers.{AnswersInMemory};
 ghost use Rattle.mvm_shape.specs.Shape.{shaped};
 

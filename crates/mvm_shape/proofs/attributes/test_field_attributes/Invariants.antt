@@ -1,0 +1,7 @@
+use Rattle.std.proofs.Common.{◌≡◌, drop}
+use Rattle.mvm_shape.specs.Rules.{each}
+use Rattle.mvm_shape.specs.Members.{field_attribute}
+use Rattle.mvm_shape.proofs.attributes.test_field_attributes.Given as goal
+
+abbrev pub invariant-loop-i : goal.invariant-loop-i
+invariant-loop-i l = each (field_attribute l.pool l.member) (drop l.i l.member.attributes) ≡ each (field_attribute l.pool l.member) l.member.attributes

@@ -1,0 +1,188 @@
+ghost use Rattle.std.specs.Prelude.{◌≡◌, ◌<◌, ◌^◌, ◌↔◌, IsTrue, codes, not, length, slice_get, IfOk};
+ghost use Rattle.std.specs.List.{list_all};
+ghost use Rattle.std.specs.Option.{option_map};
+ghost use Rattle.std.specs.Str.{bytes_eq};
+ghost use Rattle.mvm_shape.specs.Pool.{text};
+ghost use Rattle.mvm_shape.specs.Members.{is_one_of, is_unqualified, is_method_name};
+ghost use Rattle.mvm_shape.specs.Facts.{as_field, as_method, facts_of, facts_of_item, all_facts, flattened};
+
+use crate::pool::same;
+use mvm_base::{parse_field, parse_method, DescFault, List, Name, OutOfMemory};
+use mvm_layout::Item;
+use std::alloc::Global;
+
+/// How a text was read as a descriptor.
+#[derive(Clone, Copy, Debug, PartialEq, Eq)]
+pub(crate) enum Descriptor {
+    /// It spells a type, whose parameters take so many slots.
+    Whole(u64),
+    /// A type in it is `F` or `D`.
+    Float,
+    /// It spells none.
+    Broken,
+}
+
+/// What members ask of a text.
+#[derive(Clone, Copy, Debug, PartialEq, Eq)]
+pub(crate) struct TextFacts {
+    /// Whether a field may have it as its name.
+    pub(crate) is_field_name: bool,
+    /// Whether a method may.
+    pub(crate) is_method_name: bool,
+    /// How it reads as the descriptor of a field.
+    pub(crate) field: Descriptor,
+    /// How it reads as the descriptor of a method.
+    pub(crate) method: Descriptor,
+}
+
+fn is_cut(unit: u16) -> bool
+    ensures { result ≡ is_one_of (codes ".;[/") unit }
+{
+    unit == 0x2e || unit == 0x3b || unit == 0x5b || unit == 0x2f
+}
+
+fn is_bracket(unit: u16) -> bool
+    ensures { result ≡ is_one_of (codes "<>") unit }
+{
+    unit == 0x3c || unit == 0x3e
+}
+
+#[tactic(auto, unfolding(crate::specs::Members::is_unqualified))]
+fn is_unqualified(units: &[u16]) -> bool
+    ensures { result ≡ is_unqualified units.now }
+{
+    if units.is_empty() {
+        return false;
+    }
+    for unit in units {
+        if is_cut(*unit) {
+            return false;
+        }
+    }
+    true
+}
+
+fn has_no_bracket(units: &[u16]) -> bool
+    ensures { result ≡ list_all (λ unit. not (is_one_of (codes "<>") unit)) units.now }
+{
+    for unit in units {
+        if is_bracket(*unit) {
+            return false;
+        }
+    }
+    true
+}
+
+#[tactic(auto, unfolding(crate::specs::Members::is_method_name))]
+fn is_method_name(units: &[u16]) -> bool
+    ensures { result ≡ is_method_name units.now }
+{
+    same(units, b"<init>")
+        || same(units, b"<clinit>")
+        || (is_unqualified(units) && has_no_bracket(units))
+}
+
+fn is_short(text: &Name) -> bool
+    ensures { IsTrue result ↔ (length text.now < 2 ^ 32) }
+{
+    text.units().len() <= 0xffff_ffff
+}
+
+#[tactic(auto, unfolding(crate::specs::Facts::as_field))]
+fn as_field(alloc: Global, text: &Name) -> Result<Descriptor, OutOfMemory>
+    ensures { IfOk result (λ found. found ≡ as_field text.now) }
+{
+    if !is_short(text) {
+        return Err(OutOfMemory);
+    }
+    match parse_field(alloc, text) {
+        Ok(_) => Ok(Descriptor::Whole(0)),
+        Err(DescFault::Float) => Ok(Descriptor::Float),
+        Err(DescFault::OutOfMemory) => Err(OutOfMemory),
+        Err(DescFault::Empty) => Ok(Descriptor::Broken),
+        Err(DescFault::BadLetter(_)) => Ok(Descriptor::Broken),
+        Err(DescFault::Open) => Ok(Descriptor::Broken),
+        Err(DescFault::Trailing) => Ok(Descriptor::Broken),
+    }
+}
+
+#[tactic(auto, unfolding(crate::specs::Facts::as_method))]
+fn as_method(alloc: Global, text: &Name) -> Result<Descriptor, OutOfMemory>
+    ensures { IfOk result (λ found. found ≡ as_method text.now) }
+{
+    if !is_short(text) {
+        return Err(OutOfMemory);
+    }
+    match parse_method(alloc, text) {
+        Ok(method) => Ok(Descriptor::Whole(method.slots())),
+        Err(DescFault::Float) => Ok(Descriptor::Float),
+        Err(DescFault::OutOfMemory) => Err(OutOfMemory),
+        Err(DescFault::Empty) => Ok(Descriptor::Broken),
+        Err(DescFault::BadLetter(_)) => Ok(Descriptor::Broken),
+        Err(DescFault::Open) => Ok(Descriptor::Broken),
+        Err(DescFault::Trailing) => Ok(Descriptor::Broken),
+    }
+}
+
+fn facts_of(alloc: Global, text: &Name) -> Result<TextFacts, OutOfMemory>
+    ensures { IfOk result (λ facts. facts ≡ facts_of text.now) }
+{
+    let field = as_field(alloc, text)?;
+    let method = as_method(alloc, text)?;
+    Ok(TextFacts {
+        is_field_name: is_unqualified(text.units()),
+        is_method_name: is_method_name(text.units()),
+        field,
+        method,
+    })
+}
+
+fn facts_of_item(alloc: Global, item: &Item) -> Result<Option<TextFacts>, OutOfMemory>
+    ensures { IfOk result (λ facts. facts ≡ facts_of_item item.now) }
+{
+    match item {
+        Item::Utf8(text) => {
+            let facts = facts_of(alloc, text)?;
+            Ok(Some(facts))
+        }
+        _ => Ok(None),
+    }
+}
+
+/// What members ask of the texts, one row for each entry of the constant pool.
+pub(crate) fn all_facts(
+    alloc: Global,
+    pool: &List<Item>,
+) -> Result<Vec<Option<TextFacts>>, OutOfMemory>
+    ensures { IfOk result (λ rows. rows.items ≡ all_facts pool.now) }
+{
+    let items = pool.as_slice();
+    let mut rows = Vec::new(alloc);
+    for i in 0..items.len() {
+        let facts = facts_of_item(alloc, &items[i])?;
+        rows.push(facts)?;
+    }
+    Ok(rows)
+}
+
+fn row_at(rows: &[Option<TextFacts>], at: usize) -> Option<TextFacts>
+    ensures { result ≡ flattened (slice_get rows.now at) }
+{
+    match rows.get(at) {
+        Some(Some(facts)) => Some(*facts),
+        Some(None) => None,
+        None => None,
+    }
+}
+
+/// What members ask of the text of an index, if it has one.
+#[tactic(auto, using(crate::proofs::Texts::facts_from))]
+pub(crate) fn facts_at(pool: &List<Item>, rows: &[Option<TextFacts>], index: u16) -> Option<TextFacts>
+    requires { rows.now ≡ all_facts pool.now }
+    ensures { result ≡ option_map facts_of (text pool.now index) }
+{
+    if index == 0 {
+        return None;
+    }
+    row_at(rows, index as usize - 1)
+}

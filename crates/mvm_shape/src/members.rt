@@ -1,0 +1,210 @@
+ghost use Rattle.std.specs.Prelude.{◌≡◌, ◌≢◌, ◌≤◌, ◌+◌, if◌then◌else◌};
+ghost use Rattle.std.specs.List.{filter};
+ghost use Rattle.std.specs.Option.{option_map};
+ghost use Rattle.mvm_layout.specs.Answers.{AnswersInMemory};
+ghost use Rattle.mvm_layout.specs.declared.fault.ClassFault.TheVariants.{OutOfMemory, Unsupported};
+ghost use Rattle.mvm_shape.specs.Pool.{text};
+ghost use Rattle.mvm_shape.specs.Rules.{expect};
+ghost use Rattle.mvm_shape.specs.Members.{is_static, is_native_or_abstract, is_unqualified, is_method_name, holds, field_descriptor, method_descriptor, is_sound_field, tested_field, is_sound_method, is_built, tested_method};
+ghost use Rattle.mvm_shape.specs.Facts.{all_facts, facts_of, is_known_field, is_known_method, known_field, known_method, tested_as};
+
+use crate::attributes::{count_named, is_static, test_field_attributes, test_method_attributes};
+use crate::facts::{facts_at, Descriptor, TextFacts};
+use crate::header::{has_flag, shape_fault};
+use crate::pool::is_text;
+use mvm_base::List;
+use mvm_layout::{ClassFault, Item, MemberInfo};
+use std::alloc::Global;
+
+#[tactic(auto, using(crate::proofs::Texts::field_name))]
+fn is_field_name(pool: &List<Item>, rows: &[Option<TextFacts>], index: u16) -> bool
+    requires { rows.now ≡ all_facts pool.now }
+    ensures { result ≡ holds is_unqualified (text pool.now index) }
+{
+    match facts_at(pool, rows, index) {
+        Some(facts) => facts.is_field_name,
+        None => false,
+    }
+}
+
+#[tactic(auto, using(crate::proofs::Texts::method_name))]
+fn is_method_name(pool: &List<Item>, rows: &[Option<TextFacts>], index: u16) -> bool
+    requires { rows.now ≡ all_facts pool.now }
+    ensures { result ≡ holds is_method_name (text pool.now index) }
+{
+    match facts_at(pool, rows, index) {
+        Some(facts) => facts.is_method_name,
+        None => false,
+    }
+}
+
+fn unsupported_fault(at: u32) -> ClassFault
+    ensures { result ≢ OutOfMemory → result ≡ Unsupported (at + 4) }
+{
+    match at.checked_add(4) {
+        Some(place) => ClassFault::Unsupported(place),
+        None => ClassFault::OutOfMemory,
+    }
+}
+
+fn test_read(at: u32, beside: u64, read: Descriptor) -> Result<(), ClassFault>
+    requires { beside ≤ 255 }
+    ensures { AnswersInMemory result (tested_as (at + 4) beside read) }
+{
+    match read {
+        Descriptor::Whole(slots) => {
+            if slots <= 255 && slots + beside <= 255 {
+                return Ok(());
+            }
+            Err(shape_fault(at, 4))
+        }
+        Descriptor::Float => Err(unsupported_fault(at)),
+        Descriptor::Broken => Err(shape_fault(at, 4)),
+    }
+}
+
+fn known_field(facts: Option<TextFacts>) -> Descriptor
+    ensures { result ≡ known_field facts }
+{
+    match facts {
+        Some(facts) => facts.field,
+        None => Descriptor::Broken,
+    }
+}
+
+fn known_method(facts: Option<TextFacts>) -> Descriptor
+    ensures { result ≡ known_method facts }
+{
+    match facts {
+        Some(facts) => facts.method,
+        None => Descriptor::Broken,
+    }
+}
+
+#[tactic(auto, using(crate::proofs::Texts::field_tested))]
+fn test_field_descriptor(
+    pool: &List<Item>,
+    rows: &[Option<TextFacts>],
+    member: &MemberInfo,
+) -> Result<(), ClassFault>
+    requires { rows.now ≡ all_facts pool.now }
+    ensures { AnswersInMemory result (field_descriptor (member.now.at + 4) (text pool.now member.now.desc)) }
+{
+    let read = known_field(facts_at(pool, rows, member.desc));
+    test_read(member.at, 0, read)
+}
+
+fn own_slots(flags: u16) -> u64
+    ensures same { result ≡ (if is_static flags then 0 else 1) }
+    ensures few { result ≤ 255 }
+{
+    if is_static(flags) {
+        0
+    } else {
+        1
+    }
+}
+
+#[tactic(auto, using(crate::proofs::Texts::method_tested))]
+fn test_method_descriptor(
+    pool: &List<Item>,
+    rows: &[Option<TextFacts>],
+    member: &MemberInfo,
+) -> Result<(), ClassFault>
+    requires { rows.now ≡ all_facts pool.now }
+    ensures { AnswersInMemory result (method_descriptor (member.now.at + 4) member.now.flags (text pool.now member.now.desc)) }
+{
+    let read = known_method(facts_at(pool, rows, member.desc));
+    test_read(member.at, own_slots(member.flags), read)
+}
+
+#[tactic(auto, unfolding(crate::specs::Members::is_sound_field))]
+fn is_sound_field(
+    pool: &List<Item>,
+    is_interface: bool,
+    is_repeated: bool,
+    member: &MemberInfo,
+) -> bool
+    ensures { result ≡ is_sound_field pool.now is_interface is_repeated member.now }
+{
+    !is_repeated
+        && count_named(pool, b"ConstantValue", &member.attributes) <= 1
+        && (!is_interface || is_static(member.flags))
+}
+
+/// Whether a field keeps the rules.
+#[tactic(auto, unfolding(crate::specs::Members::tested_field))]
+pub(crate) fn test_field(
+    pool: &List<Item>,
+    rows: &[Option<TextFacts>],
+    is_interface: bool,
+    is_repeated: bool,
+    member: &MemberInfo,
+) -> Result<(), ClassFault>
+    requires { rows.now ≡ all_facts pool.now }
+    ensures { AnswersInMemory result (tested_field pool.now is_interface is_repeated member.now) }
+{
+    if !is_sound_field(pool, is_interface, is_repeated, member) {
+        return Err(ClassFault::Shape(member.at));
+    }
+    if !is_field_name(pool, rows, member.name) {
+        return Err(shape_fault(member.at, 2));
+    }
+    test_field_descriptor(pool, rows, member)?;
+    test_field_attributes(pool, member)
+}
+
+fn is_native_or_abstract(flags: u16) -> bool
+    ensures { result ≡ is_native_or_abstract flags }
+{
+    has_flag(0x0100, flags) || has_flag(0x0400, flags)
+}
+
+fn codes_wanted(flags: u16) -> usize
+    ensures { result ≡ (if is_native_or_abstract flags then 0 else 1) }
+{
+    if is_native_or_abstract(flags) {
+        0
+    } else {
+        1
+    }
+}
+
+#[tactic(auto, unfolding(crate::specs::Members::is_sound_method))]
+fn is_sound_method(pool: &List<Item>, is_repeated: bool, member: &MemberInfo) -> bool
+    ensures { result ≡ is_sound_method pool.now is_repeated member.now }
+{
+    !is_repeated && count_named(pool, b"Code", &member.attributes) == codes_wanted(member.flags)
+}
+
+fn is_built(pool: &List<Item>, is_interface: bool, member: &MemberInfo) -> bool
+    ensures { result ≡ is_built pool.now is_interface member.now }
+{
+    !is_interface || is_native_or_abstract(member.flags) || is_text(pool, member.name, b"<clinit>")
+}
+
+/// Whether a method keeps the rules.
+#[tactic(auto, unfolding(crate::specs::Members::tested_method))]
+pub(crate) fn test_method(
+    alloc: Global,
+    pool: &List<Item>,
+    rows: &[Option<TextFacts>],
+    is_interface: bool,
+    is_repeated: bool,
+    member: &MemberInfo,
+) -> Result<(), ClassFault>
+    requires { rows.now ≡ all_facts pool.now }
+    ensures { AnswersInMemory result (tested_method pool.now is_interface is_repeated member.now) }
+{
+    if !is_sound_method(pool, is_repeated, member) {
+        return Err(ClassFault::Shape(member.at));
+    }
+    if !is_built(pool, is_interface, member) {
+        return Err(ClassFault::Unsupported(member.at));
+    }
+    if !is_method_name(pool, rows, member.name) {
+        return Err(shape_fault(member.at, 2));
+    }
+    test_method_descriptor(pool, rows, member)?;
+    test_method_attributes(alloc, pool, &member.attributes)
+}
