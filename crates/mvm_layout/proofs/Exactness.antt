@@ -3,7 +3,7 @@ use Rattle.std.proofs.Common.{◌≡◌, ℕ, zero, suc, ◌+◌, Bool, true, fa
 use Rattle.std.proofs.lemmas.Bool.{ltb-false, le-ltb}
 use Rattle.std.proofs.lemmas.List.{take_at, drop_at, take-append-drop, length-append, length-take-le}
 use Rattle.mvm_base.specs.Endian.{big_number}
-use Rattle.mvm_base.specs.Place.{Place, run, numbered, big}
+use Rattle.mvm_base.specs.Place.{Place, run, numbered}
 use Rattle.mvm_base.specs.Answers.{◌>>=◌}
 use Rattle.mvm_layout.specs.Format.{Format, whole, bytes, number, given, followed, standing, mapped, choose, refused, kept, converted, if_passing, passing, read_times, spells_times, times, counted}
 use Rattle.mvm_layout.specs.declared.fault.ClassFault.{ClassFault}
