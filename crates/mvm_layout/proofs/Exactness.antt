@@ -3,7 +3,7 @@ use Rattle.std.proofs.Common.{◌≡◌, ℕ, zero, suc, ◌+◌, Bool, true, fa
 use Rattle.std.proofs.lemmas.Bool.{ltb-false, le-ltb}
 use Rattle.std.proofs.lemmas.List.{take_at, drop_at, take-append-drop, length-append, length-take-le}
 use Rattle.mvm_base.specs.Endian.{big_number}
-use Rattle.mvm_base.specs.Place.{Place, run, numbered, big}
+use Rattle.mvm_base.specs.Place.{Place, run, numbered}
 use Rattle.mvm_base.specs.Answers.{◌>>=◌}
 use Rattle.mvm_layout.specs.Format.{Format, whole, bytes, number, given, followed, standing, mapped, choose, refused, kept, converted, if_passing, passing, read_times, spells_times, times, counted}
 use Rattle.mvm_layout.specs.declared.fault.ClassFault.{ClassFault}
@@ -145,7 +145,7 @@ followed-exact F G f g = record {
       let j = joined p a.0.1 b.0.1 first.text second.text first.front first.place second.front second.place in
       let k = ok_is ((a.0.0, b.0.0), b.0.1) (x, r) b.2 in
       let there : (G a.0.0).spells b.0.0 (p.at + length first.text) second.text = subst (λ (n : ℕ). (G a.0.0).spells b.0.0 n second.text) first.place second.spelled in
-      subst (λ (y : (_ × _) × Place). Stands (followed F G).spells p y.0 y.1) k (record { text = first.text ++ second.text; spelled = (first.text, second.text, first.spelled, there, refl); front = j.0; place = j.1 }));
+      subst (λ (y : (_ × _) × Place). Stands (followed F G).spells p y.0 y.1) k (record { text = first.text ++ second.text; spelled = (first.text, second.text, first.spelled, there, refl {a = first.text ++ second.text}); front = j.0; place = j.1 }));
   complete = λ x text rest at s. (
       let one : F.read (record { at = at; rest = s.0 ++ (s.1 ++ rest) }) ≡ Ok (x.0, record { at = at + length s.0; rest = s.1 ++ rest }) = f.complete x.0 s.0 (s.1 ++ rest) at s.2 in
       let two = (g x.0).complete x.1 s.1 rest (at + length s.0) s.3 in
@@ -168,7 +168,7 @@ times-exact (suc n) F f = record {
       let j = joined p a.0.1 b.0.1 one.text two.text one.front one.place two.front two.place in
       let k = ok_is (a.0.0 ∷ b.0.0, b.0.1) (xs, r) b.2 in
       let there : spells_times F n b.0.0 (p.at + length one.text) two.text = subst (λ (m : ℕ). spells_times F n b.0.0 m two.text) one.place two.spelled in
-      subst (λ (z : List _ × Place). Stands (spells_times F (suc n)) p z.0 z.1) k (record { text = one.text ++ two.text; spelled = (one.text, two.text, one.spelled, there, refl); front = j.0; place = j.1 }));
+      subst (λ (z : List _ × Place). Stands (spells_times F (suc n)) p z.0 z.1) k (record { text = one.text ++ two.text; spelled = (one.text, two.text, one.spelled, there, refl {a = one.text ++ two.text}); front = j.0; place = j.1 }));
   complete = λ xs text rest at s. again xs text rest at s (λ ys t more place h. (times-exact n F f).complete ys t more place h);
 }
   where

@@ -1,12 +1,12 @@
 -- The parts of a class file are read as they are spelled.
-use Rattle.std.proofs.Common.{◌≡◌, ℕ, zero, suc, ◌+◌, ◌-◌, ◌==◌, ◌||◌, Bool, true, false, List, [], ◌∷◌, ◌++◌, length, Option, Some, None, Result, Ok, Err, refl, sym, ap, subst, ◌∙◌, append-nil, arith, IfOk}
+use Rattle.std.proofs.Common.{◌≡◌, ℕ, zero, suc, ◌+◌, ◌-◌, ◌==◌, ◌||◌, Bool, true, false, List, [], ◌∷◌, ◌++◌, length, Some, Result, Ok, Err, refl, sym, ap, subst, ◌∙◌, append-nil, arith, IfOk}
 use Rattle.std.specs.Int.{w32, w64, cast_signed}
 use Rattle.std.proofs.lemmas.Bool.Decides.{nat_tests}
 use Rattle.mvm_base.specs.Answers.{◌>>=◌}
 use Rattle.mvm_base.specs.Place.{Place}
 use Rattle.mvm_layout.specs.Answers.{AnswersInMemory}
 use Rattle.mvm_layout.specs.Infos.{AttributeParts}
-use Rattle.mvm_layout.specs.Format.{Format, bytes, number, given, followed, standing, mapped, kept, if_passing}
+use Rattle.mvm_layout.specs.Format.{Format, bytes, number, followed, standing, if_passing}
 use Rattle.mvm_layout.specs.Text.{text_of}
 use Rattle.mvm_layout.specs.Entries.{second, text, index_of, indices_of, constant, reference, is_wide, tagged, item, takes_two, entry, items, pool}
 use Rattle.mvm_layout.specs.Layout.{content, attribute_of, attribute, attributes, member_of, member, members, interfaces, magic, major, body, info_of, layout, ended, laid, row_of, row, rows, instructions, code_of, code, read_whole, code_laid, code_in}
@@ -16,7 +16,7 @@ use Rattle.mvm_layout.specs.declared.info.ClassInfo.{ClassInfo}
 use Rattle.mvm_layout.specs.declared.info.CodeInfo.{CodeInfo}
 use Rattle.mvm_layout.specs.declared.parts.Item.{Item}
 use Rattle.mvm_layout.specs.declared.parts.Item.TheVariants.{Utf8, Integer, Float, Long, Double, Upper, Class, Str, Fieldref, Methodref, InterfaceMethodref, NameAndType, MethodHandle, MethodType, InvokeDynamic}
-use Rattle.mvm_layout.proofs.Exactness.{Exact, bind_ok, kept_ok, bytes-exact, number-exact, given-exact, followed-exact, standing-exact, mapped-exact, choose-exact, refused-exact, converted-exact, passing-exact, times-exact, counted-exact}
+use Rattle.mvm_layout.proofs.Exactness.{Exact, bind_ok, kept_ok, bytes-exact, number-exact, given-exact, followed-exact, standing-exact, mapped-exact, choose-exact, refused-exact, converted-exact, passing-exact, counted-exact}
 
 -- ---- the constant pool
 

@@ -1,5 +1,5 @@
 -- The entries of the constant pool (JVM Specification 4.4).
-use Rattle.std.specs.Prelude.{◌≡◌, ℕ, zero, suc, ◌+◌, List, [], ◌∷◌, Bool, true, false, ◌==◌, ◌||◌, nat_le, ◌-◌}
+use Rattle.std.specs.Prelude.{ℕ, zero, suc, ◌+◌, List, [], ◌∷◌, Bool, true, false, ◌==◌, ◌||◌, nat_le, ◌-◌}
 use Rattle.std.specs.Int.{w32, w64, cast_signed}
 use Rattle.mvm_layout.specs.Format.{Format, bytes, number, given, followed, mapped, choose, refused, converted, passing}
 use Rattle.mvm_layout.specs.Text.{text_of}

@@ -1,5 +1,5 @@
 -- The layout of a class file (JVM Specification 4.1, 4.5 to 4.7), front to back.
-use Rattle.std.specs.Prelude.{◌≡◌, ℕ, ◌+◌, List, length, Bool, true, false, ◌&&◌, ◌==◌, nat_le, Option, Some, None, Result, Ok, Err}
+use Rattle.std.specs.Prelude.{ℕ, ◌+◌, List, length, ◌&&◌, ◌==◌, nat_le, Option, Some, None, Result, Ok, Err}
 use Rattle.mvm_base.specs.Answers.{◌>>=◌}
 use Rattle.mvm_base.specs.Place.{Place}
 use Rattle.mvm_layout.specs.Infos.{AttributeParts}
@@ -9,7 +9,6 @@ use Rattle.mvm_layout.specs.declared.fault.ClassFault.{ClassFault}
 use Rattle.mvm_layout.specs.declared.fault.ClassFault.TheVariants.{Magic, Version, Trailing, Shape}
 use Rattle.mvm_layout.specs.declared.parts.Item.{Item}
 use Rattle.mvm_layout.specs.declared.parts.Row.{Row}
-use Rattle.mvm_layout.specs.declared.parts.Code.{Code}
 use Rattle.mvm_layout.specs.declared.info.MemberInfo.{MemberInfo}
 use Rattle.mvm_layout.specs.declared.info.ClassInfo.{ClassInfo}
 use Rattle.mvm_layout.specs.declared.info.CodeInfo.{CodeInfo}

@@ -27,6 +27,7 @@ fn attribute<'a>(cursor: &mut Cursor<'a>) -> Result<AttributeInfo<'a>, ClassFaul
     let at = cursor.place();
     let name = u2(cursor)?;
     let content = content(cursor)?;
+    // The place behind the attribute, which is below 2^32.
     let _end = cursor.place();
     Ok(AttributeInfo::new(at, name, content))
 }

@@ -19,3 +19,6 @@ pub use fault::ClassFault;
 pub use info::{AttributeInfo, ClassInfo, CodeInfo, MemberInfo};
 pub use parts::{Code, Item, Member, Parts, Row};
 pub use read::{read_code, read_layout};
+
+#[cfg(test)]
+mod tests;

@@ -16,7 +16,7 @@ pub(crate) fn u1(cursor: &mut Cursor) -> Result<u8, ClassFault>
     }
 }
 
-/// The number in the next two bytes, and how far it leads.
+/// The number in the next two bytes.
 #[tactic(auto, unfolding(mvm_base::specs::Place::run))]
 pub(crate) fn u2(cursor: &mut Cursor) -> Result<u16, ClassFault>
     ensures gives { Gives result ((number 2).read cursor.old) cursor.new }
@@ -28,7 +28,7 @@ pub(crate) fn u2(cursor: &mut Cursor) -> Result<u16, ClassFault>
     }
 }
 
-/// The number in the next four bytes, and how far it leads.
+/// The number in the next four bytes.
 #[tactic(auto, unfolding(mvm_base::specs::Place::run))]
 pub(crate) fn u4(cursor: &mut Cursor) -> Result<u32, ClassFault>
     ensures gives { Gives result ((number 4).read cursor.old) cursor.new }

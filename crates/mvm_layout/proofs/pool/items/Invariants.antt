@@ -1,5 +1,4 @@
 use Rattle.std.proofs.Common.{◌≡◌, ◌-◌, false}
-use Rattle.mvm_layout.specs.Format.{Format}
 use Rattle.mvm_layout.specs.Entries.{items}
 use Rattle.mvm_layout.proofs.Loops.{with_front}
 use Rattle.mvm_layout.proofs.pool.items.Given as goal
