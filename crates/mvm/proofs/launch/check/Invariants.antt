@@ -1,4 +1,4 @@
-use Rattle.mvm.proofs.launch.read.Given as goal
+use Rattle.mvm.proofs.launch.check.Given as goal
 
-abbrev pub ghosts-read_counted : goal.ghosts-read_counted
-ghosts-read_counted a = record { name = a.blank.name; parts = a.blank.parts }
+abbrev pub ghosts-check_counted : goal.ghosts-check_counted
+ghosts-check_counted a = record { name = a.blank.name; parts = a.blank.parts }
