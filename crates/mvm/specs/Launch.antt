@@ -1,12 +1,14 @@
 -- Which answer a call of `launch` gives, over its words, the bytes of its source, the machine, and the counts of its source and its
 -- sink.
-use Rattle.std.specs.Prelude.{◌≡◌, ◌≢◌, ℕ, ◌<◌, ◌≤◌, ◌⊎◌, List, [], ◌∷◌, length, take, Option, IfSome, ⊤, Err, codes}
+use Rattle.std.specs.Prelude.{◌≡◌, ◌≢◌, ℕ, ◌<◌, ◌≤◌, ◌⊎◌, List, [], ◌∷◌, length, take, Option, Some, IfSome, ⊤, codes}
 use Rattle.std.specs.Io.KnownBytes.{Appends, IsAtEnd}
 use Rattle.mvm_outside.specs.Causes.{Rose}
-use Rattle.mvm_classfile.specs.File.{Reads, Says}
-use Rattle.mvm_classfile.specs.declared.fault.ClassFault.{ClassFault}
-use Rattle.mvm_classfile.specs.declared.fault.ClassFault.TheVariants as class_fault
-use Rattle.mvm_classfile.specs.declared.parts.ClassFile.{ClassFile}
+use Rattle.mvm_layout.specs.declared.fault.ClassFault.{ClassFault}
+use Rattle.mvm_layout.specs.declared.fault.ClassFault.TheVariants as class_fault
+use Rattle.mvm_layout.specs.declared.parts.Parts.{Parts}
+use Rattle.mvm_classfile.specs.Reading.{Reads, fault_of}
+use Rattle.mvm_first_form.specs.File.{IsFirstForm}
+use Rattle.mvm_first_form.specs.declared.parts.FirstForm.{FirstForm}
 use Rattle.mvm_interp.specs.Run.{RunsTo}
 use Rattle.mvm_interp.specs.declared.block.Block.{Block}
 use Rattle.mvm.specs.Report.{report_text}
@@ -41,14 +43,21 @@ pub record HasRead (reading : Reading) (bytes : List ℕ) : Type 0 where
   pub ended : IsAtEnd reading.left_after
   pub within : length bytes ≤ 1048576
 
--- the bytes of the source are a class file, and this is what the machine of its class leaves
+-- the bytes read as the parts of a class file, and have no fault
+pub record IsClassFile (bytes : List ℕ) : Type 0 where
+  pub parts : Parts
+  pub reads : Reads bytes parts
+  pub faultless : (fault : ClassFault) → fault_of bytes ≢ Some fault
+
+-- the bytes of the source are a class file of the first form, and this is what the machine of its class leaves
 pub record HasRun (reading : Reading) (outcome : Outcome) : Type 0 where
   pub bytes : List ℕ
   pub read : HasRead reading bytes
-  pub class : ClassFile
-  pub spelled : Reads bytes class
+  pub class_file : IsClassFile bytes
+  pub form : FirstForm
+  pub spelled : IsFirstForm bytes form
   pub block : Block
-  pub run : RunsTo class block
+  pub run : RunsTo form block
   pub only : outcome.isolates ≡ block ∷ []
 
 -- the source failed in this call
@@ -59,11 +68,25 @@ SourceFailed reading = Rose reading.faults_before reading.faults_after
 abbrev pub IsTooLong : Reading → Type 0
 IsTooLong reading = IfSome reading.left_before (λ left. 1048576 < length left)
 
--- the bytes of the source have this fault
+-- this is the first fault of the bytes, which read as no class file
+pub record IsFaulty (bytes : List ℕ) (fault : ClassFault) : Type 0 where
+  pub told : fault_of bytes ≡ Some fault
+  pub unread : (parts : Parts) → ¬ Reads bytes parts
+
+-- the bytes are a class file, and not one of the first form
+pub record IsOtherForm (bytes : List ℕ) : Type 0 where
+  pub class_file : IsClassFile bytes
+  pub other : (form : FirstForm) → ¬ IsFirstForm bytes form
+
+-- the bytes have this fault, or they are a class file that this stage can't run
+abbrev pub IsRefused : List ℕ → ClassFault → Type 0
+IsRefused bytes fault = IsFaulty bytes fault ⊎ ((fault ≡ class_fault.Unsupported 0) × IsOtherForm bytes)
+
+-- the source was read to its end, and its bytes are refused with this fault
 pub record HasFault (reading : Reading) (fault : ClassFault) : Type 0 where
   pub bytes : List ℕ
   pub read : HasRead reading bytes
-  pub said : Says bytes (Err fault)
+  pub refused : IsRefused bytes fault
   pub named : fault ≢ class_fault.OutOfMemory
 
 -- the sink failed in this call, or took nothing of a piece

@@ -1,12 +1,17 @@
 -- What a refusal reads as.
 use Rattle.std.specs.Prelude.{ℕ, List, ◌++◌, codes, decimal}
-use Rattle.mvm_classfile.specs.declared.fault.ClassFault.{ClassFault}
-use Rattle.mvm_classfile.specs.declared.fault.ClassFault.TheVariants.{Magic, Unsupported, OutOfMemory}
+use Rattle.mvm_layout.specs.declared.fault.ClassFault.{ClassFault}
+use Rattle.mvm_layout.specs.declared.fault.ClassFault.TheVariants.{Magic, Version, Truncated, Trailing, Pool, Shape, Unsupported, OutOfMemory}
 use Rattle.mvm.specs.declared.refusal.Refusal.{Refusal}
 use Rattle.mvm.specs.declared.refusal.Refusal.TheVariants.{Usage, ReadFault, InputTooLong, Class, WriteFault}
 
 abbrev pub class_fault_text : ClassFault → List ℕ
 class_fault_text Magic = codes "class: magic"
+class_fault_text (Version major) = codes "class: version " ++ decimal major
+class_fault_text (Truncated place) = codes "class: truncated " ++ decimal place
+class_fault_text (Trailing place) = codes "class: trailing " ++ decimal place
+class_fault_text (Pool index) = codes "class: pool " ++ decimal index
+class_fault_text (Shape place) = codes "class: shape " ++ decimal place
 class_fault_text (Unsupported place) = codes "class: unsupported " ++ decimal place
 class_fault_text OutOfMemory = codes "out of memory"
 

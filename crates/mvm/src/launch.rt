@@ -1,15 +1,17 @@
-ghost use Rattle.std.specs.Prelude.{◌≡◌, ◌<◌, ◌^◌, ◌↔◌, [], ◌∷◌, length, map, string_bytes, IfOk, IfErr, IsTrue};
-ghost use Rattle.mvm_classfile.specs.File.{Says};
+ghost use Rattle.std.specs.Prelude.{◌≡◌, ◌≢◌, ◌<◌, ◌^◌, ◌↔◌, [], ◌∷◌, length, map, string_bytes, IfOk, IfErr, OnOk, IsTrue};
+ghost use Rattle.mvm_layout.specs.declared.fault.ClassFault.TheVariants as class_fault;
+ghost use Rattle.mvm_first_form.specs.File.{IsFirstForm};
 ghost use Rattle.mvm_interp.specs.Run.{RunsTo};
 ghost use Rattle.mvm_interp.specs.declared.block.Block.{Block};
 ghost use Rattle.mvm.specs.Status.{status_of};
-ghost use Rattle.mvm.specs.Launch.{Reading, Writing, AskForRun, HasRun, Answers, KeepsSink, StopsBefore, Writes};
+ghost use Rattle.mvm.specs.Launch.{Reading, Writing, AskForRun, IsClassFile, HasRun, IsFaulty, IsRefused, Answers, KeepsSink, StopsBefore, Writes};
 
 use crate::outcome::{Ended, Outcome, What, status_of};
 use crate::refusal::Refusal;
 use crate::report::report;
 use mvm_base::{List, OutOfMemory, Steps};
-use mvm_classfile::{ClassFault, ClassFile, read_class};
+use mvm_classfile::{ClassFault, read_class};
+use mvm_first_form::{FirstForm, read_first_form};
 use mvm_interp::run;
 use mvm_outside::{Gate, ReadRefusal, Sink, Source, Store, read_all, write_all};
 use std::alloc::Global;
@@ -30,27 +32,43 @@ fn asks_for_run(words: &[String]) -> bool
     }
 }
 
-fn read_counted<L: Ledger>(
-    alloc: Global,
-    bytes: &[u8],
-    blank: Blank,
-) -> Result<ClassFile, ClassFault>
+fn check_counted<L: Ledger>(alloc: Global, bytes: &[u8], blank: Blank) -> Result<(), ClassFault>
     requires name { blank.name ≡ L.name }
     requires parts { blank.parts ≡ L.parts }
     requires share { 0 < L.parts }
     requires few { length bytes.now < 2 ^ 32 }
-    ensures { Says bytes.now result }
+    ensures ok { OnOk result (IsClassFile bytes.now) }
+    ensures err { IfErr result (λ fault. fault ≢ class_fault.OutOfMemory → IsFaulty bytes.now fault) }
 {
     let mut steps: Steps<L> = Steps::new(blank);
-    read_class(alloc, bytes, &mut steps)
+    match read_class(alloc, bytes, &mut steps) {
+        Ok(_) => Ok(()),
+        Err(fault) => Err(fault),
+    }
 }
 
-/// Reads a class file, at steps that nobody counts.
-fn read(alloc: Global, bytes: &[u8]) -> Result<ClassFile, ClassFault>
+/// Reads a class file through, at steps that nobody counts.
+fn check(alloc: Global, bytes: &[u8]) -> Result<(), ClassFault>
     requires { length bytes.now < 2 ^ 32 }
-    ensures { Says bytes.now result }
+    ensures ok { OnOk result (IsClassFile bytes.now) }
+    ensures err { IfErr result (λ fault. fault ≢ class_fault.OutOfMemory → IsFaulty bytes.now fault) }
 {
-    read_counted::<Brand>(alloc, bytes, Blank::new(1))
+    check_counted::<Brand>(alloc, bytes, Blank::new(1))
+}
+
+/// The class of the bytes, if they are a class file that the machine of this stage can run.
+fn read(alloc: Global, bytes: &[u8]) -> Result<FirstForm, ClassFault>
+    requires { length bytes.now < 2 ^ 32 }
+    ensures file { OnOk result (IsClassFile bytes.now) }
+    ensures form { IfOk result (IsFirstForm bytes.now) }
+    ensures err { IfErr result (λ fault. fault ≢ class_fault.OutOfMemory → IsRefused bytes.now fault) }
+{
+    check(alloc, bytes)?;
+    match read_first_form(alloc, bytes) {
+        Ok(Some(form)) => Ok(form),
+        Ok(None) => Err(ClassFault::Unsupported(0)),
+        Err(OutOfMemory) => Err(ClassFault::OutOfMemory),
+    }
 }
 
 /// Reads the class file and runs it. An `Err` is the answer of the whole call.
@@ -64,22 +82,22 @@ fn run_input<S: Source>(alloc: Global, script: &mut S) -> Result<Outcome, What>
         Err(ReadRefusal::InputTooLong) => return Err(What::Refused(Refusal::InputTooLong)),
         Err(ReadRefusal::OutOfMemory) => return Err(What::OutOfMemory),
     };
-    let class = match read(alloc, bytes.as_slice()) {
-        Ok(class) => class,
+    let form = match read(alloc, bytes.as_slice()) {
+        Ok(form) => form,
         Err(ClassFault::OutOfMemory) => return Err(What::OutOfMemory),
         Err(fault) => return Err(What::Refused(Refusal::Class(fault))),
     };
-    match outcome_of(alloc, class) {
+    match outcome_of(alloc, form) {
         Ok(outcome) => Ok(outcome),
         Err(OutOfMemory) => Err(What::OutOfMemory),
     }
 }
 
 /// What is left of the one isolate that runs the class.
-fn outcome_of(alloc: Global, class: ClassFile) -> Result<Outcome, OutOfMemory>
-    ensures { IfOk result (λ outcome. (block : Block) × RunsTo class block × (outcome.isolates ≡ block ∷ [])) }
+fn outcome_of(alloc: Global, form: FirstForm) -> Result<Outcome, OutOfMemory>
+    ensures { IfOk result (λ outcome. (block : Block) × RunsTo form block × (outcome.isolates ≡ block ∷ [])) }
 {
-    let block = run(alloc, class)?;
+    let block = run(alloc, form)?;
     let mut isolates = List::new(alloc);
     isolates.push(block)?;
     Ok(Outcome { isolates })
@@ -119,7 +137,8 @@ fn answer<S: Source, K: Sink>(alloc: Global, words: &[String], script: &mut S, o
 /// its end, run its `main` as isolate 0 with the limits that every isolate has by default, and write the report to
 /// `out`, assembled whole before its first byte. Every other words are a usage refusal.
 ///
-/// `files` and `gate` are not used at this stage: a class file comes from `script`, and there is one isolate.
+/// A class file that is read, but is not of the first form, is refused as unsupported: this stage can't run it yet. `files`
+/// and `gate` are not used: a class file comes from `script`, and there is one isolate.
 pub fn launch<R: Threads + Sync, S: Source, F: Store, K: Sink, G: Gate>(
     _rt: &R,
     alloc: Global,

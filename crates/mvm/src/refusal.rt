@@ -1,4 +1,4 @@
-ghost use Rattle.std.specs.Prelude.{◌≡◌, ◌++◌, OnOk, IfOk};
+ghost use Rattle.std.specs.Prelude.{◌≡◌, ◌++◌, decimal, OnOk, IfOk};
 ghost use Rattle.mvm.specs.Refusals.{class_fault_text, refusal_text_of};
 
 use crate::texts::push_number;
@@ -15,7 +15,7 @@ pub enum Refusal {
     ReadFault,
     /// The input has more than 1,048,576 bytes.
     InputTooLong,
-    /// The input is not a class file that is read.
+    /// The input is no class file, or is one that this machine can't run.
     Class(ClassFault),
     /// A write of the report failed, or took nothing, after so many bytes.
     WriteFault(u64),
@@ -50,16 +50,26 @@ fn push_refusal(text: &mut Line, refusal: &Refusal) -> Result<(), AllocError>
     }
 }
 
-// Adds why an input is not a class file that is read.
+// Adds why an input is no class file that is run.
 fn push_class_fault(text: &mut Line, fault: &ClassFault) -> Result<(), AllocError>
     ensures ok { OnOk result (text.new ≡ text.old ++ class_fault_text fault.now) }
 {
     match fault {
         ClassFault::Magic => text.push_str("class: magic"),
-        ClassFault::Unsupported(place) => {
-            text.push_str("class: unsupported ")?;
-            push_number(text, u64::from(*place))
-        }
+        ClassFault::Version(major) => push_fault(text, "class: version ", u32::from(*major)),
+        ClassFault::Truncated(place) => push_fault(text, "class: truncated ", *place),
+        ClassFault::Trailing(place) => push_fault(text, "class: trailing ", *place),
+        ClassFault::Pool(index) => push_fault(text, "class: pool ", u32::from(*index)),
+        ClassFault::Shape(place) => push_fault(text, "class: shape ", *place),
+        ClassFault::Unsupported(place) => push_fault(text, "class: unsupported ", *place),
         ClassFault::OutOfMemory => text.push_str("out of memory"),
     }
+}
+
+// Adds a kind of fault, and its number.
+fn push_fault(text: &mut Line, kind: &str, number: u32) -> Result<(), AllocError>
+    ensures ok { OnOk result (text.new ≡ text.old ++ (kind.now ++ decimal number)) }
+{
+    text.push_str(kind)?;
+    push_number(text, u64::from(number))
 }

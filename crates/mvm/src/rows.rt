@@ -144,7 +144,8 @@ fn refuses_bytes(rt: HostRuntime) -> Result<(), Fail> {
     let magic = Refusal::Class(ClassFault::Magic);
     let max_locals_1 = main_with(alloc, 150, 0x01)?;
     assert!(rt; is_refused(&rt, alloc, max_locals_1, unsupported, 4)?);
-    assert!(rt; is_refused(&rt, alloc, List::new(alloc), unsupported, 4)?);
+    let truncated = Refusal::Class(ClassFault::Truncated(0));
+    assert!(rt; is_refused(&rt, alloc, List::new(alloc), truncated, 4)?);
     let zeros = List::from_slice(alloc, &[0; 4])?;
     assert!(rt; is_refused(&rt, alloc, zeros, magic, 4)?);
     let long = List::from_vec(vec![in alloc; 0; 1_048_577]?);

@@ -93,6 +93,20 @@ fn tells_refusals(rt: HostRuntime) -> Result<(), Fail> {
         (Refusal::ReadFault, "read failed"),
         (Refusal::InputTooLong, "input too long"),
         (Refusal::Class(ClassFault::Magic), "class: magic"),
+        (Refusal::Class(ClassFault::Version(53)), "class: version 53"),
+        (
+            Refusal::Class(ClassFault::Truncated(0)),
+            "class: truncated 0",
+        ),
+        (
+            Refusal::Class(ClassFault::Trailing(180)),
+            "class: trailing 180",
+        ),
+        (Refusal::Class(ClassFault::Pool(13)), "class: pool 13"),
+        (
+            Refusal::Class(ClassFault::Shape(4294967295)),
+            "class: shape 4294967295",
+        ),
         (
             Refusal::Class(ClassFault::Unsupported(0)),
             "class: unsupported 0",

@@ -1,4 +1,4 @@
-ghost use Rattle.std.specs.Prelude.{◌≡◌, ◌<◌, ◌^◌, [], length, unwrap_or, IfOk, IfSome, Ok};
+ghost use Rattle.std.specs.Prelude.{◌≡◌, ◌<◌, ◌^◌, [], length, unwrap_or, IfOk, IfSome, Ok, Some};
 ghost use Rattle.std.specs.Option.{IfNone};
 ghost use Rattle.mvm_first_form.specs.declared.parts.FirstForm.{FirstForm as FirstFormOf};
 ghost use Rattle.mvm_first_form.specs.Answers.{AnswersInMemory};
@@ -58,6 +58,8 @@ pub fn read_first_form(alloc: Global, bytes: &[u8]) -> Result<Option<FirstForm>,
     requires { length bytes.now < 2 ^ 32 }
     // What is found is spelled so.
     ensures found { IfOk result (λ found. IfSome found (IsFirstForm bytes.now)) }
+    // What is spelled is found, unless memory runs out.
+    ensures only { (form : FirstFormOf) → IsFirstForm bytes.now form → IfOk result (λ found. found ≡ Some form) }
     // Where none is found, none is spelled.
     ensures none { IfOk result (λ found. IfNone found ((form : FirstFormOf) → ¬ IsFirstForm bytes.now form)) }
 {

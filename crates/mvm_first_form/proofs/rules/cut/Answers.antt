@@ -12,7 +12,7 @@ loop-cursor-smaller c = cut-shorter c.loop-cursor.cursor c.in_ok-instruction.ins
 pub loop-cursor-preserved : goal.loop-cursor-preserved
 loop-cursor-preserved c =
     let some = not_ended (length c.loop-cursor.cursor.rest) c.is_at_end.result c.is_at_end.ensures c.loop-cursor-test.true in
-    rw (c.in_ok-push.ensures.ok, c.place-at.ensures) (cut-goes_on c.args.code.now.bytes c.loop-cursor.all c.loop-cursor.cursor c.in_ok-instruction.instruction c.instruction.new.cursor c.loop-cursor.invariant some c.in_ok-instruction.ensures)
+    rw (c.in_ok-push.ensures.ok, c.place-at.ensures.value) (cut-goes_on c.args.code.now.bytes c.loop-cursor.all c.loop-cursor.cursor c.in_ok-instruction.instruction c.instruction.new.cursor c.loop-cursor.invariant some c.in_ok-instruction.ensures)
 
 pub returns-in_err-instruction-clause-only : goal.returns-in_err-instruction-clause-only
 returns-in_err-instruction-clause-only c = λ placed h.
