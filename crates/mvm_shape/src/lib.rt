@@ -14,6 +14,9 @@ mod members;
 mod numbers;
 mod pool;
 
+#[cfg(test)]
+mod tests;
+
 ghost use Rattle.std.specs.Prelude.{◌≡◌, IfOk};
 ghost use Rattle.mvm_layout.specs.Answers.{AnswersInMemory};
 ghost use Rattle.mvm_shape.specs.Shape.{shaped, rules, parts_of};
