@@ -51,6 +51,7 @@ new_text text at old new none updates = record {
     kept_by : (b : Bool) (name : List ℕ) (n : ℕ) → old name ≡ Some n → bytes_eq text name ≡ b → new name ≡ Some n
     kept_by true name n h e = let same : text ≡ name = (bytes_eq-Decides text name).0 e in let other : old name ≡ None = rw (← same) none in absurd cc
     kept_by false name n h e = updates name ∙ rw e h
+
     only_by : (b : Bool) (name : List ℕ) (n : ℕ) → update bytes_eq old text (Some at) name ≡ Some n → bytes_eq text name ≡ b → (old name ≡ Some n) ⊎ ((Some text ≡ Some name) × (n ≡ at))
     only_by true name n h e = let same : text ≡ name = (bytes_eq-Decides text name).0 e in let k = rw e at h in inr (ap (λ (x : List ℕ). Some x) same, cc)
     only_by false name n h e = inl (rw e at h)
@@ -83,6 +84,7 @@ next_number pool numbers at number seen new long so_far one = record {
         let here : k ≡ at = omega (arith, length-append numbers (number ∷ [])) in
         let e : slice_index (numbers ++ number ∷ []) k ≡ number = grind (arith, common_steps) in
         one.known name (rw here at has) ∙ ap (λ (n : ℕ). Some n) (sym e)
+
     holds_by : (name : List ℕ) (n : ℕ) → (seen name ≡ Some n) ⊎ ((text_at pool at ≡ Some name) × (n ≡ at)) → text_at pool n ≡ Some name
     holds_by name n (inl old) = so_far.holds name n old
     holds_by name n (inr here) = rw here.1 here.0
@@ -90,8 +92,8 @@ next_number pool numbers at number seen new long so_far one = record {
 pub numbered : (pool : List Item) (numbers : List ℕ) (seen : List ℕ → Option ℕ) → Numbering pool numbers seen → length numbers ≡ length pool → AreNumbers pool numbers
 numbered pool numbers seen all long = record {
   alike = λ i j name at_i at_j.
-    let p = all.found i name (rw long (within pool i name at_i)) at_i in
-    let q = all.found j name (rw long (within pool j name at_j)) at_j in cc;
+      let p = all.found i name (rw long (within pool i name at_i)) at_i in
+      let q = all.found j name (rw long (within pool j name at_j)) at_j in cc;
   stand = λ i name at_i. all.holds name (slice_index numbers i) (all.found i name (rw long (within pool i name at_i)) at_i);
 }
 
@@ -122,8 +124,10 @@ module _ (pool : List Item) (numbers : List ℕ) (are : AreNumbers pool numbers)
           let one = are.stand (i - 1) s p in
           let other = are.stand (j - 1) t q in
           let third = rw e at one in cc
+
       alike : (s t : List ℕ) → text_at pool (i - 1) ≡ Some s → text_at pool (j - 1) ≡ Some t → s ≡ t → slice_index numbers (i - 1) ≡ slice_index numbers (j - 1)
       alike s t p q e = are.alike (i - 1) (j - 1) t (rw e at p) q
+
       by : (s t : Option (List ℕ)) → text pool i ≡ s → text pool j ≡ t
           → same_text s t ≡ same_number (option_map (λ (name : List ℕ). slice_index numbers (i - 1)) s) (option_map (λ (name : List ℕ). slice_index numbers (j - 1)) t)
       by None t p q = refl
@@ -199,9 +203,9 @@ pub adds : (pool : List Item) (numbers : List ℕ) → AreNumbers pool numbers �
     → ((a b : ℕ) → new a b ≡ (old a b || pair_of pool numbers member a b)) → Adds pool numbers old new member had
 adds pool numbers are old new member had same next = record {
   tells = λ before h.
-    same ∙ has_same old _ (number_at pool numbers member.name) (number_at pool numbers member.desc) h.all
-    ∙ any_pair pool numbers (number_at pool numbers member.name) (number_at pool numbers member.desc) before
-    ∙ any_same _ (is_same pool member) before (pair_is pool numbers are member);
+      same ∙ has_same old _ (number_at pool numbers member.name) (number_at pool numbers member.desc) h.all
+      ∙ any_pair pool numbers (number_at pool numbers member.name) (number_at pool numbers member.desc) before
+      ∙ any_same _ (is_same pool member) before (pair_is pool numbers are member);
   next = λ before h. record { all = λ a b. next a b ∙ rw (h.all a b) (sym (appended before a b)) };
 }
   where

@@ -13,7 +13,6 @@ mod lists;
 mod members;
 mod numbers;
 mod pool;
-
 #[cfg(test)]
 mod tests;
 

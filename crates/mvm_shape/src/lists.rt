@@ -15,6 +15,7 @@ use std::alloc::Global;
 use std::collections::BTreeSet;
 
 /// Whether each field keeps the rules, and has another name or descriptor than those before it.
+#[tactic(auto, unfolding(crate::specs::Members::field_rule))]
 pub(crate) fn test_fields(
     alloc: Global,
     info: &ClassInfo,
@@ -38,6 +39,7 @@ pub(crate) fn test_fields(
 }
 
 /// Whether each method keeps the rules, and has another name or descriptor than those before it.
+#[tactic(auto, unfolding(crate::specs::Members::method_rule))]
 pub(crate) fn test_methods(
     alloc: Global,
     info: &ClassInfo,
@@ -53,7 +55,14 @@ pub(crate) fn test_methods(
     let mut pairs = BTreeSet::new(alloc);
     for i in 0..methods.len() {
         match is_repeated(&mut pairs, &info.pool, numbers, &methods[i]) {
-            Ok(repeated) => test_method(alloc, &info.pool, rows, is_interface, repeated, &methods[i])?,
+            Ok(repeated) => test_method(
+                alloc,
+                &info.pool,
+                rows,
+                is_interface,
+                repeated,
+                &methods[i],
+            )?,
             Err(_) => return Err(ClassFault::OutOfMemory),
         }
     }

@@ -72,11 +72,23 @@ fn fault_of_method(alloc: Global, name: u16, desc: u16) -> Result<Option<ClassFa
 fn tests_members(rt: HostRuntime) -> Result<(), Fail> {
     let alloc = rt.alloc();
     assert_eq!(rt; fault_of_fields(alloc, (5, 6), (9, 6))?, None);
-    assert_eq!(rt; fault_of_fields(alloc, (5, 6), (7, 8))?, Some(ClassFault::Shape(300)));
-    assert_eq!(rt; fault_of_fields(alloc, (5, 6), (2, 10))?, Some(ClassFault::Unsupported(304)));
-    assert_eq!(rt; fault_of_fields(alloc, (5, 11), (5, 6))?, Some(ClassFault::Shape(204)));
+    assert_eq!(rt;
+        fault_of_fields(alloc, (5, 6), (7, 8))?,
+        Some(ClassFault::Shape(300))
+    );
+    assert_eq!(rt;
+        fault_of_fields(alloc, (5, 6), (2, 10))?,
+        Some(ClassFault::Unsupported(304))
+    );
+    assert_eq!(rt;
+        fault_of_fields(alloc, (5, 11), (5, 6))?,
+        Some(ClassFault::Shape(204))
+    );
     assert_eq!(rt; fault_of_method(alloc, 5, 11)?, None);
-    assert_eq!(rt; fault_of_method(alloc, 9, 11)?, Some(ClassFault::Shape(202)));
+    assert_eq!(rt;
+        fault_of_method(alloc, 9, 11)?,
+        Some(ClassFault::Shape(202))
+    );
     Ok(())
 }
 
@@ -84,7 +96,10 @@ fn tests_members(rt: HostRuntime) -> Result<(), Fail> {
 fn tests_a_header(rt: HostRuntime) -> Result<(), Fail> {
     let alloc = rt.alloc();
     assert_eq!(rt; fault_of(alloc, class(alloc, 0x0601, 3)?), None);
-    assert_eq!(rt; fault_of(alloc, class(alloc, 0x0601, 1)?), Some(ClassFault::Shape(104)));
+    assert_eq!(rt;
+        fault_of(alloc, class(alloc, 0x0601, 1)?),
+        Some(ClassFault::Shape(104))
+    );
     let mut info = class(alloc, 0x0021, 3)?;
     info.this_class = 2;
     assert_eq!(rt; fault_of(alloc, info), Some(ClassFault::Shape(102)));

@@ -12,7 +12,7 @@ loop-i-preserved c =
     record {
       long = grind (arith, common_steps);
       so_far = rw c.in_ok-push.ensures.items (next_number c.args.pool.now c.loop-i.numbers.items c.loop-i.i c.in_ok-number.number (look c.loop-i.seen) (look c.number_of_item.new.seen)
-        c.loop-i.invariant.long c.loop-i.invariant.so_far (rw e c.in_ok-number.ensures));
+          c.loop-i.invariant.long c.loop-i.invariant.so_far (rw e c.in_ok-number.ensures));
     }
 
 pub returns : goal.returns
