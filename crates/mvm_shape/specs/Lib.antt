@@ -3,3 +3,4 @@ pub mod Rules
 pub mod Members
 pub mod Shape
 pub mod Facts
+pub mod Numbers

@@ -105,7 +105,7 @@ is_constant_value pool desc content = length content == 2 && is_constant_of (tex
 unfoldable pub field_attribute : List Item → MemberInfo → AttributeParts → Result (Unit {0}) ClassFault
 field_attribute pool member attribute =
     expect (is_utf8 (entry pool attribute.name)
-        && (not (is_named pool (codes "ConstantValue") attribute && is_static member.flags) || is_constant_value pool member.desc attribute.content)) (Shape attribute.at)
+    && (not (is_named pool (codes "ConstantValue") attribute && is_static member.flags) || is_constant_value pool member.desc attribute.content)) (Shape attribute.at)
 
 -- its name is a text
 unfoldable pub named_attribute : List Item → AttributeParts → Result (Unit {0}) ClassFault
@@ -150,7 +150,7 @@ tested_field pool is_interface repeated member =
     and_then field_descriptor (member.at + 4) (text pool member.desc)
     and_then each (field_attribute pool member) member.attributes
 
-abbrev pub field_rule : List Item → Bool → List MemberInfo → MemberInfo → Result (Unit {0}) ClassFault
+unfoldable pub field_rule : List Item → Bool → List MemberInfo → MemberInfo → Result (Unit {0}) ClassFault
 field_rule pool is_interface before member = tested_field pool is_interface (is_repeated pool before member) member
 
 -- Not the second of its name and descriptor; one Code, or none where it is native or abstract.
@@ -171,7 +171,7 @@ tested_method pool is_interface repeated member =
     and_then method_descriptor (member.at + 4) member.flags (text pool member.desc)
     and_then each (method_attribute pool) member.attributes
 
-abbrev pub method_rule : List Item → Bool → List MemberInfo → MemberInfo → Result (Unit {0}) ClassFault
+unfoldable pub method_rule : List Item → Bool → List MemberInfo → MemberInfo → Result (Unit {0}) ClassFault
 method_rule pool is_interface before member = tested_method pool is_interface (is_repeated pool before member) member
 
 -- ---- what is kept of a member

@@ -11,7 +11,7 @@ ghost use Rattle.mvm_shape.specs.Members.{is_static, is_named, is_int_text, is_c
 use crate::header::has_flag;
 use crate::pool::{entry, is_text, is_utf8};
 use mvm_base::List;
-use mvm_layout::{read_code, AttributeInfo, ClassFault, Item, MemberInfo};
+use mvm_layout::{AttributeInfo, ClassFault, Item, MemberInfo, read_code};
 use std::alloc::Global;
 
 /// Whether these are the flags of a static member.
@@ -28,11 +28,7 @@ fn is_named(pool: &List<Item>, name: &[u8], attribute: &AttributeInfo) -> bool
 }
 
 /// How many attributes have this name.
-pub(crate) fn count_named(
-    pool: &List<Item>,
-    name: &[u8],
-    attributes: &List<AttributeInfo>,
-) -> usize
+pub(crate) fn count_named(pool: &List<Item>, name: &[u8], attributes: &List<AttributeInfo>) -> usize
     ensures { result ≡ length (filter (is_named pool.now name.now) attributes.now) }
 {
     let all = attributes.as_slice();
@@ -161,11 +157,7 @@ pub(crate) fn test_names(
     Ok(())
 }
 
-fn test_code(
-    alloc: Global,
-    pool: &List<Item>,
-    attribute: &AttributeInfo,
-) -> Result<(), ClassFault>
+fn test_code(alloc: Global, pool: &List<Item>, attribute: &AttributeInfo) -> Result<(), ClassFault>
     ensures { AnswersInMemory result (code_attribute pool.now attribute.now.at (code_in attribute.now)) }
 {
     match read_code(alloc, attribute) {

@@ -7,7 +7,7 @@ ghost use Rattle.mvm_shape.specs.Members.{is_one_of, is_unqualified, is_method_n
 ghost use Rattle.mvm_shape.specs.Facts.{as_field, as_method, facts_of, facts_of_item, all_facts, flattened};
 
 use crate::pool::same;
-use mvm_base::{parse_field, parse_method, DescFault, List, Name, OutOfMemory};
+use mvm_base::{DescFault, List, Name, OutOfMemory, parse_field, parse_method};
 use mvm_layout::Item;
 use std::alloc::Global;
 
@@ -177,7 +177,11 @@ fn row_at(rows: &[Option<TextFacts>], at: usize) -> Option<TextFacts>
 
 /// What members ask of the text of an index, if it has one.
 #[tactic(auto, using(crate::proofs::Texts::facts_from))]
-pub(crate) fn facts_at(pool: &List<Item>, rows: &[Option<TextFacts>], index: u16) -> Option<TextFacts>
+pub(crate) fn facts_at(
+    pool: &List<Item>,
+    rows: &[Option<TextFacts>],
+    index: u16,
+) -> Option<TextFacts>
     requires { rows.now ≡ all_facts pool.now }
     ensures { result ≡ option_map facts_of (text pool.now index) }
 {

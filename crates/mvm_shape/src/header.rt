@@ -79,7 +79,8 @@ fn has_superclass(info: &ClassInfo) -> bool
     ensures { result ≡ has_superclass info.now }
 {
     let pool = &info.pool;
-    (is_class(pool, info.super_class) || (info.super_class == 0 && names_object(pool, info.this_class)))
+    (is_class(pool, info.super_class)
+        || (info.super_class == 0 && names_object(pool, info.this_class)))
         && (!is_interface(info) || names_object(pool, info.super_class))
 }
 

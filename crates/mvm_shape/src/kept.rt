@@ -1,12 +1,11 @@
 ghost use Rattle.std.specs.Prelude.{◌≡◌, map, IfOk};
 ghost use Rattle.std.specs.Option.{option_map};
-
 ghost use Rattle.mvm_layout.specs.Layout.{code_in};
 ghost use Rattle.mvm_shape.specs.Members.{codes_among, constants_among, first, index_in, code_of_info, code_of, field_part, method_part};
 
 use crate::attributes::{first_named, index_in, is_static};
 use mvm_base::{List, OutOfMemory};
-use mvm_layout::{read_code, AttributeInfo, Code, Item, Member, MemberInfo};
+use mvm_layout::{AttributeInfo, Code, Item, Member, MemberInfo, read_code};
 use std::alloc::Global;
 
 fn constant_of(pool: &List<Item>, member: &MemberInfo) -> Option<u16>
@@ -60,11 +59,7 @@ fn code_of(
 }
 
 #[tactic(auto, unfolding(crate::specs::Members::method_part))]
-fn method_part(
-    alloc: Global,
-    pool: &List<Item>,
-    member: &MemberInfo,
-) -> Result<Member, OutOfMemory>
+fn method_part(alloc: Global, pool: &List<Item>, member: &MemberInfo) -> Result<Member, OutOfMemory>
     ensures { IfOk result (λ part. part ≡ method_part pool.now member.now) }
 {
     let code = code_of(alloc, pool, member)?;

@@ -9,19 +9,72 @@ mod attributes;
 mod facts;
 mod header;
 mod kept;
+mod lists;
 mod members;
+mod numbers;
 mod pool;
+#[cfg(test)]
+mod tests;
 
+ghost use Rattle.std.specs.Prelude.{◌≡◌, IfOk};
 ghost use Rattle.mvm_layout.specs.Answers.{AnswersInMemory};
-ghost use Rattle.mvm_shape.specs.Shape.{shaped};
+ghost use Rattle.mvm_shape.specs.Shape.{shaped, rules, parts_of};
 
+use crate::attributes::test_names;
+use crate::facts::all_facts;
+use crate::header::{test_header, test_links};
+use crate::kept::{field_parts, method_parts};
+use crate::lists::{test_fields, test_methods};
+use crate::numbers::numbers;
+use mvm_base::OutOfMemory;
 use mvm_layout::{ClassFault, ClassInfo, Parts};
 use std::alloc::Global;
 
+#[tactic(auto, unfolding(crate::specs::Shape::rules))]
+fn test_rules(alloc: Global, info: &ClassInfo) -> Result<(), ClassFault>
+    ensures { AnswersInMemory result (rules info.now) }
+{
+    test_header(info)?;
+    let Ok(rows) = all_facts(alloc, &info.pool) else {
+        return Err(ClassFault::OutOfMemory);
+    };
+    let Ok(numbers) = numbers(alloc, &info.pool) else {
+        return Err(ClassFault::OutOfMemory);
+    };
+    test_fields(alloc, info, &rows, &numbers)?;
+    test_methods(alloc, info, &rows, &numbers)?;
+    test_names(&info.pool, &info.attributes)
+}
+
+#[tactic(auto, unfolding(crate::specs::Shape::parts_of))]
+fn parts_of(alloc: Global, info: ClassInfo) -> Result<Parts, OutOfMemory>
+    ensures { IfOk result (λ parts. parts ≡ parts_of info.entry) }
+{
+    let fields = field_parts(alloc, &info.pool, &info.fields)?;
+    let methods = method_parts(alloc, &info.pool, &info.methods)?;
+    Ok(Parts {
+        minor: info.minor,
+        major: info.major,
+        pool: info.pool,
+        flags: info.flags,
+        this_class: info.this_class,
+        super_class: info.super_class,
+        interfaces: info.interfaces,
+        fields,
+        methods,
+    })
+}
+
 /// The parts of a class file that is laid out, without the attributes that are passed over, or its first fault. It takes
 /// time in proportion to n log n for n bytes, and memory in proportion to them.
-pub fn shape<'a>(_alloc: Global, _info: ClassInfo<'a>) -> Result<Parts, ClassFault>
-    ensures { AnswersInMemory result (shaped _info.entry) }
+#[tactic(auto, unfolding(crate::specs::Shape::shaped))]
+pub fn shape<'a>(alloc: Global, info: ClassInfo<'a>) -> Result<Parts, ClassFault>
+    ensures { AnswersInMemory result (shaped info.entry) }
 {
-    Err(ClassFault::OutOfMemory)
+    test_links(&info.pool)?;
+    test_rules(alloc, &info)?;
+    match parts_of(alloc, info) {
+        Ok(parts) => Ok(parts),
+        Err(_) => Err(ClassFault::OutOfMemory),
+    }
 }

@@ -9,7 +9,7 @@ ghost use Rattle.mvm_shape.specs.Members.{is_static, is_native_or_abstract, is_u
 ghost use Rattle.mvm_shape.specs.Facts.{all_facts, facts_of, is_known_field, is_known_method, known_field, known_method, tested_as};
 
 use crate::attributes::{count_named, is_static, test_field_attributes, test_method_attributes};
-use crate::facts::{facts_at, Descriptor, TextFacts};
+use crate::facts::{Descriptor, TextFacts, facts_at};
 use crate::header::{has_flag, shape_fault};
 use crate::pool::is_text;
 use mvm_base::List;
@@ -98,11 +98,7 @@ fn own_slots(flags: u16) -> u64
     ensures same { result ≡ (if is_static flags then 0 else 1) }
     ensures few { result ≤ 255 }
 {
-    if is_static(flags) {
-        0
-    } else {
-        1
-    }
+    if is_static(flags) { 0 } else { 1 }
 }
 
 #[tactic(auto, using(crate::proofs::Texts::method_tested))]
@@ -163,11 +159,7 @@ fn is_native_or_abstract(flags: u16) -> bool
 fn codes_wanted(flags: u16) -> usize
     ensures { result ≡ (if is_native_or_abstract flags then 0 else 1) }
 {
-    if is_native_or_abstract(flags) {
-        0
-    } else {
-        1
-    }
+    if is_native_or_abstract(flags) { 0 } else { 1 }
 }
 
 #[tactic(auto, unfolding(crate::specs::Members::is_sound_method))]

@@ -1,0 +1,70 @@
+ghost use Rattle.std.specs.Prelude.{◌≡◌, []};
+ghost use Rattle.mvm_layout.specs.Answers.{AnswersInMemory};
+ghost use Rattle.mvm_shape.specs.Rules.{each_after};
+ghost use Rattle.mvm_shape.specs.Members.{field_rule, method_rule};
+ghost use Rattle.mvm_shape.specs.Facts.{all_facts};
+ghost use Rattle.mvm_shape.specs.Numbers.{AreNumbers};
+ghost use Rattle.mvm_shape.specs.Shape.{is_interface};
+
+use crate::facts::TextFacts;
+use crate::header::is_interface;
+use crate::members::{test_field, test_method};
+use crate::numbers::is_repeated;
+use mvm_layout::{ClassFault, ClassInfo};
+use std::alloc::Global;
+use std::collections::BTreeSet;
+
+/// Whether each field keeps the rules, and has another name or descriptor than those before it.
+#[tactic(auto, unfolding(crate::specs::Members::field_rule))]
+pub(crate) fn test_fields(
+    alloc: Global,
+    info: &ClassInfo,
+    rows: &[Option<TextFacts>],
+    numbers: &[usize],
+) -> Result<(), ClassFault>
+    requires rows { rows.now ≡ all_facts info.now.pool }
+    requires numbers { AreNumbers info.now.pool numbers.now }
+    ensures { AnswersInMemory result (each_after [] (field_rule info.now.pool (is_interface info.now)) info.now.fields) }
+{
+    let is_interface = is_interface(info);
+    let fields = info.fields.as_slice();
+    let mut pairs = BTreeSet::new(alloc);
+    for i in 0..fields.len() {
+        match is_repeated(&mut pairs, &info.pool, numbers, &fields[i]) {
+            Ok(repeated) => test_field(&info.pool, rows, is_interface, repeated, &fields[i])?,
+            Err(_) => return Err(ClassFault::OutOfMemory),
+        }
+    }
+    Ok(())
+}
+
+/// Whether each method keeps the rules, and has another name or descriptor than those before it.
+#[tactic(auto, unfolding(crate::specs::Members::method_rule))]
+pub(crate) fn test_methods(
+    alloc: Global,
+    info: &ClassInfo,
+    rows: &[Option<TextFacts>],
+    numbers: &[usize],
+) -> Result<(), ClassFault>
+    requires rows { rows.now ≡ all_facts info.now.pool }
+    requires numbers { AreNumbers info.now.pool numbers.now }
+    ensures { AnswersInMemory result (each_after [] (method_rule info.now.pool (is_interface info.now)) info.now.methods) }
+{
+    let is_interface = is_interface(info);
+    let methods = info.methods.as_slice();
+    let mut pairs = BTreeSet::new(alloc);
+    for i in 0..methods.len() {
+        match is_repeated(&mut pairs, &info.pool, numbers, &methods[i]) {
+            Ok(repeated) => test_method(
+                alloc,
+                &info.pool,
+                rows,
+                is_interface,
+                repeated,
+                &methods[i],
+            )?,
+            Err(_) => return Err(ClassFault::OutOfMemory),
+        }
+    }
+    Ok(())
+}
