@@ -1,0 +1,9 @@
+pub mod Answered
+pub mod Plain
+pub mod Items
+pub mod Named
+pub mod Pieces
+pub mod Rule
+pub mod Fields
+pub mod Methods
+pub mod Whole

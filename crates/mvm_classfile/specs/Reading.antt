@@ -30,6 +30,14 @@ fault_in (Err fault) = Some fault
 unfoldable pub fault_of : List ℕ → Option ClassFault
 fault_of text = fault_in (reading text)
 
+-- the bytes read as some parts
+abbrev pub IsParts : List ℕ → Type 0
+IsParts text = (parts : Parts) × Reads text parts
+
+-- the bytes have a fault
+abbrev pub HasFault : List ℕ → Type 0
+HasFault text = (fault : ClassFault) × (fault_of text ≡ Some fault)
+
 -- what an answer says of the bytes
 abbrev pub Says : List ℕ → Result Parts ClassFault → Type 0
 Says text (Ok parts) = Reads text parts

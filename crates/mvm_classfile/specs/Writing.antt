@@ -79,16 +79,24 @@ written_code code =
     u2 code.max_stack ++ u2 code.max_locals ++ u4 (length code.bytes) ++ code.bytes
     ++ u2 (length code.rows) ++ flat_map written_row code.rows ++ u2 0
 
-abbrev pub constant_attribute : List Item → Option ℕ → List (List ℕ)
-constant_attribute pool None = []
-constant_attribute pool (Some index) = written_attribute (name_index pool (codes "ConstantValue")) (u2 index) ∷ []
+-- the indices of these two names
+pub record Names : Type 0 where
+  pub constant : ℕ
+  pub code : ℕ
 
-abbrev pub code_attribute : List Item → Option Code → List (List ℕ)
-code_attribute pool None = []
-code_attribute pool (Some code) = written_attribute (name_index pool (codes "Code")) (written_code code) ∷ []
+unfoldable pub names_in : List Item → Names
+names_in pool = record { constant = name_index pool (codes "ConstantValue"); code = name_index pool (codes "Code") }
 
-abbrev pub attributes_of : List Item → Member → List (List ℕ)
-attributes_of pool member = constant_attribute pool member.constant ++ code_attribute pool member.code
+abbrev pub constant_attribute : Names → Option ℕ → List (List ℕ)
+constant_attribute names None = []
+constant_attribute names (Some index) = written_attribute names.constant (u2 index) ∷ []
+
+abbrev pub code_attribute : Names → Option Code → List (List ℕ)
+code_attribute names None = []
+code_attribute names (Some code) = written_attribute names.code (written_code code) ∷ []
+
+abbrev pub attributes_of : Names → Member → List (List ℕ)
+attributes_of names member = constant_attribute names member.constant ++ code_attribute names member.code
 
 -- a count, and so many attributes
 abbrev pub written_attributes : List (List ℕ) → List ℕ
@@ -96,21 +104,21 @@ written_attributes all = u2 (length all) ++ flat_map (λ attribute. attribute) a
 
 -- ---- members, and the whole (4.1, 4.5, 4.6)
 
-unfoldable pub written_member : List Item → Member → List ℕ
-written_member pool member = u2 member.flags ++ u2 member.name ++ u2 member.desc ++ written_attributes (attributes_of pool member)
+unfoldable pub written_member : Names → Member → List ℕ
+written_member names member = u2 member.flags ++ u2 member.name ++ u2 member.desc ++ written_attributes (attributes_of names member)
 
 unfoldable pub written_pool : List Item → List ℕ
 written_pool pool = u2 (length pool + 1) ++ flat_map written_item pool
 
-unfoldable pub written_members : List Item → List Member → List ℕ
-written_members pool members = u2 (length members) ++ flat_map (written_member pool) members
+unfoldable pub written_members : Names → List Member → List ℕ
+written_members names members = u2 (length members) ++ flat_map (written_member names) members
 
 unfoldable pub written : Parts → List ℕ
 written parts =
     u4 0xCAFEBABE ++ u2 parts.minor ++ u2 parts.major ++ written_pool parts.pool
     ++ u2 parts.flags ++ u2 parts.this_class ++ u2 parts.super_class
     ++ u2 (length parts.interfaces) ++ flat_map u2 parts.interfaces
-    ++ written_members parts.pool parts.fields ++ written_members parts.pool parts.methods ++ u2 0
+    ++ written_members (names_in parts.pool) parts.fields ++ written_members (names_in parts.pool) parts.methods ++ u2 0
 
 -- ---- parts that can be written
 
@@ -122,13 +130,16 @@ abbrev pub fits_code : Option Code → Bool
 fits_code (Some code) = nat_lt (length code.rows) (2 ^ 16)
 fits_code None = true
 
--- each list is short enough for its count, and the written form has fewer than 2^32 bytes
-unfoldable pub fits : Parts → Bool
-fits parts =
+-- each list is short enough for its count
+unfoldable pub lists_fit : Parts → Bool
+lists_fit parts =
     nat_lt (length parts.pool + 1) (2 ^ 16) && list_all fits_item parts.pool
     && nat_lt (length parts.interfaces) (2 ^ 16) && nat_lt (length parts.fields) (2 ^ 16) && nat_lt (length parts.methods) (2 ^ 16)
     && list_all (λ member. fits_code member.code) parts.fields && list_all (λ member. fits_code member.code) parts.methods
-    && nat_lt (length (written parts)) (2 ^ 32)
+
+-- the same, and the written form has fewer than 2^32 bytes
+unfoldable pub fits : Parts → Bool
+fits parts = lists_fit parts && nat_lt (length (written parts)) (2 ^ 32)
 
 -- what reading the written form of the parts gives
 unfoldable pub rebuilt : Parts → Result Parts ClassFault

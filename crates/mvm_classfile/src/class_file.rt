@@ -1,4 +1,5 @@
 ghost use Rattle.std.specs.Prelude.{◌≡◌};
+ghost use Rattle.mvm_classfile.specs.Reading.{IsClassFile};
 
 use mvm_layout::Parts;
 use std::marker::Model;
@@ -22,9 +23,25 @@ impl Model for ClassFile {
 }
 
 impl ClassFile {
+    /// The class file of parts that some bytes read as.
+    pub(crate) fn new(parts: Parts) -> ClassFile
+        requires { IsClassFile parts }
+        ensures { result ≡ parts }
+    {
+        ClassFile { parts }
+    }
+
     /// What the class file says, but for the attributes that are passed over.
     pub fn parts(&self) -> &Parts
         ensures { result.now ≡ self.now }
+    {
+        &self.parts
+    }
+
+    /// The same parts, with what they keep.
+    pub(crate) fn kept_parts(&self) -> &Parts
+        ensures value { result.now ≡ self.now }
+        ensures keeps { IsClassFile self.now }
     {
         &self.parts
     }

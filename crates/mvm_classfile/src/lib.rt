@@ -7,7 +7,11 @@
 #![tactic(auto)]
 
 mod class_file;
+mod entries;
+mod fit;
 mod laws;
+mod members;
+mod numbers;
 mod read;
 mod write;
 

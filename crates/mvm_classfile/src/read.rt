@@ -2,13 +2,35 @@ ghost use Rattle.std.specs.Prelude.{◌≡◌, ◌<◌, ◌^◌, ◌+◌, length
 ghost use Rattle.mvm_layout.specs.Answers.{AnswersInMemory};
 ghost use Rattle.mvm_layout.specs.declared.fault.ClassFault.{ClassFault as Fault};
 ghost use Rattle.mvm_layout.specs.declared.parts.Parts.{Parts as PartsOf};
-ghost use Rattle.mvm_classfile.specs.Reading.{Reads, fault_of, Says};
+ghost use Rattle.mvm_classfile.specs.Reading.{Reads, reading, fault_of, Says};
 
 use crate::class_file::ClassFile;
 use mvm_base::Steps;
-use mvm_layout::ClassFault;
+use mvm_layout::{ClassFault, Parts, read_layout};
+use mvm_shape::shape;
 use std::alloc::Global;
 use std::sync::ledger::Ledger;
+
+/// What the bytes read as, or their first fault.
+#[tactic(auto, unfolding(crate::specs::Reading::reading))]
+fn read_parts(alloc: Global, bytes: &[u8]) -> Result<Parts, ClassFault>
+    requires { length bytes.now < 2 ^ 32 }
+    ensures { AnswersInMemory result (reading bytes.now) }
+{
+    let info = read_layout(alloc, bytes)?;
+    shape(alloc, info)
+}
+
+/// The class file of what the bytes read as, or their first fault.
+pub(crate) fn read_file(alloc: Global, bytes: &[u8]) -> Result<ClassFile, ClassFault>
+    requires { length bytes.now < 2 ^ 32 }
+    ensures { AnswersInMemory result (reading bytes.now) }
+{
+    match read_parts(alloc, bytes) {
+        Ok(parts) => Ok(ClassFile::new(parts)),
+        Err(fault) => Err(fault),
+    }
+}
 
 /// The class file that the bytes are, all of them (JVM Specification, chapter 4), at one step for each, or their first fault.
 /// It takes time in proportion to n log n for n bytes and memory in proportion to them, and keeps no reference to them.
@@ -16,11 +38,7 @@ use std::sync::ledger::Ledger;
 /// # Errors
 ///
 /// The first fault: of the layout, front to back; else of the lowest entry of the constant pool; else at the lowest place.
-pub fn read_class<L: Ledger>(
-    _alloc: Global,
-    bytes: &[u8],
-    _steps: &mut Steps<L>,
-) -> Result<ClassFile, ClassFault>
+pub fn read_class<L: Ledger>(alloc: Global, bytes: &[u8], steps: &mut Steps<L>) -> Result<ClassFile, ClassFault>
     requires { length bytes.now < 2 ^ 32 }
     // What each answer says of the bytes.
     ensures says { Says bytes.now result }
@@ -28,7 +46,13 @@ pub fn read_class<L: Ledger>(
     ensures reads { (parts : PartsOf) → Reads bytes.now parts → AnswersInMemory result (Ok parts) }
     // The first fault is told, unless memory runs out.
     ensures faults { (fault : Fault) → fault_of bytes.now ≡ Some fault → AnswersInMemory result (Err fault) }
-    ensures steps { OnOk result (_steps.new ≡ _steps.old + length bytes.now) }
+    ensures steps { OnOk result (steps.new ≡ steps.old + length bytes.now) }
 {
-    Err(ClassFault::OutOfMemory)
+    match read_file(alloc, bytes) {
+        Ok(class) => {
+            steps.rise(bytes.len() as u64);
+            Ok(class)
+        }
+        Err(fault) => Err(fault),
+    }
 }

@@ -1,0 +1,80 @@
+-- The rules of one instruction (JVM Specification 4.9.1, 4.9.2).
+use Rattle.std.specs.Prelude.{ℕ, List, length, Bool, true, false, not, nat_le, ◌&&◌, ◌||◌, ◌==◌, if◌then◌else◌, Result, Ok, Err}
+use Rattle.std.specs.List.{list_all}
+use Rattle.mvm_insn.specs.Insns.{insn}
+use Rattle.mvm_insn.specs.Rows.{SwitchParts}
+use Rattle.mvm_insn.specs.Shapes.{between}
+use Rattle.mvm_insn.specs.declared.fault.InsnFault.{InsnFault}
+use Rattle.mvm_insn.specs.declared.fault.InsnFault.TheVariants.{OffEnd as cut_off, Unknown, Unsupported as foreign, Switch}
+use Rattle.mvm_insn.specs.declared.parts.At.{At}
+use Rattle.mvm_insn.specs.declared.parts.Insn.{Insn}
+use Rattle.mvm_insn.specs.declared.parts.Insn.TheVariants.{Plain, Jump, Choice}
+use Rattle.mvm_insn.specs.declared.rows.SwitchRow.{SwitchRow}
+use Rattle.mvm_layout.specs.declared.parts.Item.{Item}
+use Rattle.mvm_layout.specs.declared.parts.Code.{Code}
+use Rattle.mvm_check.specs.Rules.{expect, ◌and_then◌}
+use Rattle.mvm_check.specs.Starts.{starts_of, begins}
+use Rattle.mvm_check.specs.Operands.{has_operands}
+use Rattle.mvm_check.specs.Locals.{locals_of}
+use Rattle.mvm_check.specs.declared.fault.CheckKind.{CheckKind}
+use Rattle.mvm_check.specs.declared.fault.CheckKind.TheVariants.{BadOpcode, Unsupported, BadSwitch, BadTarget, BadIndex, BadLocal, OffEnd}
+
+-- ---- an instruction stands at the place
+
+abbrev pub kind_of : InsnFault → CheckKind
+kind_of (Unknown op) = BadOpcode
+kind_of cut_off = BadOpcode
+kind_of (foreign op) = Unsupported
+kind_of Switch = BadSwitch
+
+abbrev pub stood : Result At InsnFault → Result (Unit {0}) CheckKind
+stood (Ok x) = Ok tt
+stood (Err fault) = Err (kind_of fault)
+
+unfoldable pub stands : List ℕ → ℕ → Result (Unit {0}) CheckKind
+stands code pc = stood (insn code pc)
+
+-- ---- it keeps the rules
+
+abbrev pub rows_begin : List ℕ → List SwitchRow → Bool
+rows_begin starts rows = list_all (λ row. begins starts row.target) rows
+
+-- the default of a switch and each of its rows
+unfoldable pub switch_begins : List ℕ → SwitchParts → Bool
+switch_begins starts choice = begins starts choice.otherwise && rows_begin starts choice.rows
+
+-- each target is the start of an instruction
+unfoldable pub has_targets : List ℕ → Insn → Bool
+has_targets starts (Jump op target) = begins starts target
+has_targets starts (Choice op choice) = switch_begins starts choice
+has_targets starts _ = true
+
+-- a goto, a switch, a return or athrow: behind it the code may end
+unfoldable pub is_last : Insn → Bool
+is_last (Jump op target) = op == 0xA7 || op == 0xC8
+is_last (Choice op choice) = true
+is_last (Plain op) = between 0xAC 0xAD op || between 0xB0 0xB1 op || op == 0xBF
+is_last _ = false
+
+-- Its local variables are there. The room for the parameters is asked for at the first instruction.
+abbrev pub has_locals : Bool → Code → ℕ → Insn → Bool
+has_locals room code pc x = nat_le (locals_of x) code.max_locals && (room || not (pc == 0))
+
+-- the code does not end behind it, or may
+abbrev pub goes_on : Code → At → Bool
+goes_on code x = not (x.next == length code.bytes) || is_last x.insn
+
+unfoldable pub kept : List Item → Bool → Code → ℕ → At → Result (Unit {0}) CheckKind
+kept pool room code pc x =
+    expect (has_targets (starts_of code.bytes) x.insn) BadTarget
+    and_then expect (has_operands pool x.insn) BadIndex
+    and_then expect (has_locals room code pc x.insn) BadLocal
+    and_then expect (goes_on code x) OffEnd
+
+-- where none stands, the fault was told before
+abbrev pub kept_if_stood : List Item → Bool → Code → ℕ → Result At InsnFault → Result (Unit {0}) CheckKind
+kept_if_stood pool room code pc (Ok x) = kept pool room code pc x
+kept_if_stood pool room code pc (Err fault) = Ok tt
+
+unfoldable pub keeps : List Item → Bool → Code → ℕ → Result (Unit {0}) CheckKind
+keeps pool room code pc = kept_if_stood pool room code pc (insn code.bytes pc)

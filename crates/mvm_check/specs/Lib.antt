@@ -1,0 +1,6 @@
+pub mod Rules
+pub mod Starts
+pub mod Operands
+pub mod Locals
+pub mod Instructions
+pub mod Check

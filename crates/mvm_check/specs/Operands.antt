@@ -1,0 +1,150 @@
+-- Entries of the constant pool as operands of instructions, and what else stands with them (JVM Specification 4.9.1).
+use Rattle.std.specs.Prelude.{ℕ, zero, suc, ◌+◌, List, [], ◌∷◌, length, Bool, true, false, not, nat_le, ◌&&◌, ◌||◌, ◌==◌, if◌then◌else◌, Option, Some, None, Result, Ok, Err, codes}
+use Rattle.std.specs.Option.{option_and_then}
+use Rattle.std.specs.Str.{bytes_eq}
+use Rattle.mvm_base.specs.Descriptor.{method_of, slots}
+use Rattle.mvm_base.specs.declared.descriptor.MethodShape.{MethodShape}
+use Rattle.mvm_base.specs.declared.descriptor.DescFault.{DescFault}
+use Rattle.mvm_layout.specs.declared.parts.Item.{Item}
+use Rattle.mvm_layout.specs.declared.parts.Item.TheVariants.{Utf8, Integer, Long, Class, Str, Fieldref, Methodref, InterfaceMethodref, NameAndType}
+use Rattle.mvm_shape.specs.Pool.{entry, is_class, text, class_name}
+use Rattle.mvm_insn.specs.Shapes.{between}
+use Rattle.mvm_insn.specs.declared.parts.Insn.{Insn}
+use Rattle.mvm_insn.specs.declared.parts.Insn.TheVariants.{Pool, Interface, NewArray, Multi}
+
+-- ---- kinds of entry (4.4)
+
+abbrev pub is_loadable : Option Item → Bool
+is_loadable (Some (Integer n)) = true
+is_loadable (Some (Str text)) = true
+is_loadable (Some (Class name)) = true
+is_loadable _ = false
+
+abbrev pub is_long : Option Item → Bool
+is_long (Some (Long n)) = true
+is_long _ = false
+
+abbrev pub is_field : Option Item → Bool
+is_field (Some (Fieldref class member)) = true
+is_field _ = false
+
+abbrev pub is_method : Option Item → Bool
+is_method (Some (Methodref class member)) = true
+is_method _ = false
+
+abbrev pub is_interface_method : Option Item → Bool
+is_interface_method (Some (InterfaceMethodref class member)) = true
+is_interface_method _ = false
+
+-- ---- names and descriptors of methods (4.4.2, 4.4.6)
+
+-- the index of the name and type of a method
+abbrev pub member_of : Option Item → ℕ
+member_of (Some (Methodref class member)) = member
+member_of (Some (InterfaceMethodref class member)) = member
+member_of _ = 0
+
+abbrev pub name_of : Option Item → ℕ
+name_of (Some (NameAndType name desc)) = name
+name_of _ = 0
+
+abbrev pub desc_of : Option Item → ℕ
+desc_of (Some (NameAndType name desc)) = desc
+desc_of _ = 0
+
+abbrev pub method_name : List Item → ℕ → Option (List ℕ)
+method_name pool index = text pool (name_of (entry pool (member_of (entry pool index))))
+
+abbrev pub method_desc : List Item → ℕ → ℕ
+method_desc pool index = desc_of (entry pool (member_of (entry pool index)))
+
+abbrev pub slots_in : Result MethodShape DescFault → Option ℕ
+slots_in (Ok method) = Some (slots method.params)
+slots_in (Err fault) = None
+
+-- The slots that the parameters of a method descriptor take, a long two (4.3.3). A text of a class file has at most 65,535 units.
+abbrev pub slots_of_text : List ℕ → Option ℕ
+slots_of_text text = if nat_le (length text) 65535 then slots_in (method_of text) else None
+
+abbrev pub slots_of_item : Item → Option ℕ
+slots_of_item (Utf8 text) = slots_of_text text
+slots_of_item _ = None
+
+-- the same, by the index of the descriptor
+unfoldable pub parameter_slots : List Item → ℕ → Option ℕ
+parameter_slots pool desc = option_and_then slots_of_item (entry pool desc)
+
+-- a name that begins with < is `<init>`, where it is invoked as special
+abbrev pub is_invocable : Bool → Option (List ℕ) → Bool
+is_invocable special (Some (letter ∷ name)) = not (letter == 60) || (special && bytes_eq (letter ∷ name) (codes "<init>"))
+is_invocable special (Some []) = true
+is_invocable special None = false
+
+-- ---- names of classes (4.4.1)
+
+-- the name begins with so many [
+abbrev pub has_dimensions : ℕ → List ℕ → Bool
+has_dimensions zero name = true
+has_dimensions (suc n) [] = false
+has_dimensions (suc n) (letter ∷ name) = letter == 91 && has_dimensions n name
+
+-- there is a class of this index, and its name begins with so many [
+abbrev pub names_dimensions : ℕ → Option (List ℕ) → Bool
+names_dimensions n (Some name) = has_dimensions n name
+names_dimensions n None = false
+
+-- ---- operands
+
+-- ldc and ldc_w, and ldc2_w
+unfoldable pub constant_operand : ℕ → Option Item → Bool
+constant_operand op item = if op == 0x14 then is_long item else is_loadable item
+
+-- invokevirtual, invokespecial, and invokestatic
+unfoldable pub method_operand : List Item → ℕ → ℕ → Bool
+method_operand pool op index =
+    (is_method (entry pool index) || (not (op == 0xB6) && is_interface_method (entry pool index)))
+    && is_invocable (op == 0xB7) (method_name pool index)
+
+-- new of no array, anewarray of fewer than 255 dimensions, checkcast, and instanceof
+unfoldable pub class_operand : List Item → ℕ → ℕ → Bool
+class_operand pool op index =
+    is_class (entry pool index)
+    && not (op == 0xBB && names_dimensions 1 (class_name pool index))
+    && not (op == 0xBD && names_dimensions 255 (class_name pool index))
+
+unfoldable pub pool_operand : List Item → ℕ → ℕ → Bool
+pool_operand pool op index =
+    if between 0x12 0x14 op then constant_operand op (entry pool index) else (
+    if between 0xB2 0xB5 op then is_field (entry pool index) else (
+    if between 0xB6 0xB8 op then method_operand pool op index else
+    class_operand pool op index))
+
+-- the count is the slots of the arguments, the receiver among them
+abbrev pub is_count : ℕ → Option ℕ → Bool
+is_count count (Some slots) = count == slots + 1
+is_count count None = false
+
+-- invokeinterface
+unfoldable pub interface_operand : List Item → ℕ → ℕ → ℕ → Bool
+interface_operand pool index count last =
+    is_interface_method (entry pool index)
+    && is_invocable false (method_name pool index)
+    && is_count count (parameter_slots pool (method_desc pool index))
+    && last == 0
+
+-- boolean, char, byte, short, int and long (6.5, newarray)
+abbrev pub is_item_kind : ℕ → Bool
+is_item_kind kind = between 4 5 kind || between 8 11 kind
+
+-- multianewarray
+unfoldable pub multi_operand : List Item → ℕ → ℕ → Bool
+multi_operand pool index dims =
+    is_class (entry pool index) && not (dims == 0) && names_dimensions dims (class_name pool index)
+
+-- what the operands of an instruction name is what its opcode wants
+unfoldable pub has_operands : List Item → Insn → Bool
+has_operands pool (Pool op index) = pool_operand pool op index
+has_operands pool (Interface index count last) = interface_operand pool index count last
+has_operands pool (NewArray kind) = is_item_kind kind
+has_operands pool (Multi index dims) = multi_operand pool index dims
+has_operands pool _ = true

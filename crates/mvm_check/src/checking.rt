@@ -1,0 +1,209 @@
+ghost use Rattle.std.specs.Prelude.{◌≡◌, ◌≤◌, length};
+ghost use Rattle.mvm_shape.specs.Pool.{entry, is_class};
+ghost use Rattle.mvm_check.specs.Rules.{each, each_from, told, Answers};
+ghost use Rattle.mvm_check.specs.Starts.{starts_of};
+ghost use Rattle.mvm_check.specs.Check.{covers, is_row, row_rule, stands_rule, keeps_rule, code_rule, method_rule, check_of};
+
+use crate::constants::Constants;
+use crate::fault::{CheckFault, CheckKind};
+use crate::instruction::{keeps, stands};
+use crate::locals::has_room;
+use crate::pool::is_class;
+use crate::starts::Starts;
+use mvm_base::List;
+use mvm_classfile::ClassFile;
+use mvm_layout::{Code, Item, Member, Parts, Row};
+use std::alloc::Global;
+
+fn told(method: u16, at: u32, answer: Result<(), CheckKind>) -> Result<(), CheckFault>
+    ensures { result ≡ told method at answer }
+{
+    match answer {
+        Ok(()) => Ok(()),
+        Err(kind) => Err(CheckFault::Bad { method, at, kind }),
+    }
+}
+
+#[tactic(auto, unfolding(crate::specs::Check::stands_rule))]
+fn stands_rule(method: u16, code: &[u8], pc: u32) -> Result<(), CheckFault>
+    requires { length code.now ≤ 65535 }
+    ensures { result ≡ stands_rule method code.now pc }
+{
+    told(method, pc, stands(code, pc))
+}
+
+fn all_stand(method: u16, code: &[u8], starts: &Starts) -> Result<(), CheckFault>
+    requires { length code.now ≤ 65535 }
+    ensures { result ≡ each (stands_rule method code.now) starts.now }
+{
+    let places = starts.places();
+    for i in 0..places.len() {
+        stands_rule(method, code, places[i])?;
+    }
+    Ok(())
+}
+
+#[tactic(auto, unfolding(crate::specs::Check::keeps_rule))]
+fn keeps_rule(
+    constants: &Constants,
+    method: u16,
+    room: bool,
+    code: &Code,
+    starts: &Starts,
+    pc: u32,
+) -> Result<(), CheckFault>
+    requires short { length code.now.bytes ≤ 65535 }
+    requires starts { starts.now ≡ starts_of code.now.bytes }
+    ensures { result ≡ keeps_rule constants.now method room code.now pc }
+{
+    told(method, pc, keeps(constants, room, code, starts, pc))
+}
+
+fn all_keep(
+    constants: &Constants,
+    method: u16,
+    room: bool,
+    code: &Code,
+    starts: &Starts,
+) -> Result<(), CheckFault>
+    requires short { length code.now.bytes ≤ 65535 }
+    requires starts { starts.now ≡ starts_of code.now.bytes }
+    ensures { result ≡ each (keeps_rule constants.now method room code.now) starts.now }
+{
+    let places = starts.places();
+    for i in 0..places.len() {
+        keeps_rule(constants, method, room, code, starts, places[i])?;
+    }
+    Ok(())
+}
+
+#[tactic(auto, unfolding(crate::specs::Check::covers))]
+fn covers(starts: &Starts, end: usize, row: &Row) -> bool
+    ensures { result ≡ covers starts.now end row.now }
+{
+    row.start < row.end
+        && starts.has(u32::from(row.start))
+        && (usize::from(row.end) == end || starts.has(u32::from(row.end)))
+}
+
+#[tactic(auto, unfolding(crate::specs::Check::is_row))]
+fn is_row(pool: &List<Item>, code: &Code, starts: &Starts, row: &Row) -> bool
+    requires { starts.now ≡ starts_of code.now.bytes }
+    ensures { result ≡ is_row pool.now code.now row.now }
+{
+    0 < code.max_stack
+        && covers(starts, code.bytes.len(), row)
+        && starts.has(u32::from(row.handler))
+        && (row.catch_class == 0 || is_class(pool, row.catch_class))
+}
+
+#[tactic(auto, unfolding(crate::specs::Check::row_rule))]
+fn row_rule(
+    pool: &List<Item>,
+    method: u16,
+    code: &Code,
+    starts: &Starts,
+    number: u32,
+    row: &Row,
+) -> Result<(), CheckFault>
+    requires { starts.now ≡ starts_of code.now.bytes }
+    ensures { result ≡ row_rule pool.now method code.now number row.now }
+{
+    if !is_row(pool, code, starts, row) {
+        return told(method, number, Err(CheckKind::BadHandler));
+    }
+    Ok(())
+}
+
+fn all_rows(pool: &List<Item>, method: u16, code: &Code, starts: &Starts) -> Result<(), CheckFault>
+    requires few { length code.now.rows ≤ 65535 }
+    requires starts { starts.now ≡ starts_of code.now.bytes }
+    ensures { result ≡ each_from 0 (row_rule pool.now method code.now) code.now.rows }
+{
+    let rows = code.rows.as_slice();
+    for i in 0..rows.len() {
+        row_rule(pool, method, code, starts, i as u32, &rows[i])?;
+    }
+    Ok(())
+}
+
+/// The first fault of the code of a method. It takes time and memory in proportion to the code and its rows.
+#[tactic(auto, unfolding(crate::specs::Check::code_rule))]
+fn code_rule(
+    alloc: Global,
+    constants: &Constants,
+    method: u16,
+    room: bool,
+    code: &Code,
+) -> Result<(), CheckFault>
+    requires short { length code.now.bytes ≤ 65535 }
+    requires few { length code.now.rows ≤ 65535 }
+    ensures { Answers result (code_rule constants.now method room code.now) }
+{
+    let bytes = code.bytes.as_slice();
+    let starts = Starts::of(alloc, bytes)?;
+    all_stand(method, bytes, &starts)?;
+    all_keep(constants, method, room, code, &starts)?;
+    all_rows(constants.pool(), method, code, &starts)
+}
+
+#[tactic(auto, unfolding(crate::specs::Check::method_rule))]
+fn method_rule(
+    alloc: Global,
+    constants: &Constants,
+    number: u16,
+    method: &Member,
+) -> Result<(), CheckFault>
+    ensures { Answers result (method_rule constants.now number method.now) }
+{
+    let code = match &method.code {
+        Some(code) => code,
+        None => return Ok(()),
+    };
+    if code.bytes.len() > 65535 || code.rows.len() > 65535 {
+        return Ok(());
+    }
+    let slots = constants.parameter_slots(method.desc);
+    let room = has_room(method.flags, code.max_locals, slots);
+    code_rule(alloc, constants, number, room, code)
+}
+
+fn all_methods(
+    alloc: Global,
+    constants: &Constants,
+    methods: &List<Member>,
+) -> Result<(), CheckFault>
+    requires { length methods.now ≤ 65535 }
+    ensures { Answers result (each_from 0 (method_rule constants.now) methods.now) }
+{
+    let members = methods.as_slice();
+    for i in 0..members.len() {
+        method_rule(alloc, constants, i as u16, &members[i])?;
+    }
+    Ok(())
+}
+
+/// The first fault of what a class file says.
+#[tactic(auto, unfolding(crate::specs::Check::check_of))]
+pub(crate) fn check_parts(alloc: Global, parts: &Parts) -> Result<(), CheckFault>
+    ensures { Answers result (check_of parts.now) }
+{
+    if parts.methods.len() > 65535 {
+        return Ok(());
+    }
+    let constants = Constants::of(alloc, &parts.pool)?;
+    all_methods(alloc, &constants, &parts.methods)
+}
+
+/// Checks the code of each method of a class file against the static constraints on code (JVM Specification 4.9.1), and that
+/// no code ends behind an instruction that goes on (4.9.2). It takes time and memory in proportion to the class file.
+///
+/// # Errors
+///
+/// The first fault: of the methods in their order; in one first the places that hold no instruction, by place; then the rules of
+/// each instruction, by place and at one by the order of `CheckKind`; then the rows of the exception table.
+pub fn check(alloc: Global, class: &ClassFile) -> Result<(), CheckFault>
+    ensures { Answers result (check_of class.now) }
+{
+    check_parts(alloc, class.parts())
+}

@@ -1,0 +1,136 @@
+ghost use Rattle.std.specs.Prelude.{◌≡◌, ◌<◌, ◌^◌, length};
+ghost use Rattle.std.specs.List.{list_all};
+ghost use Rattle.mvm_check.specs.Rules.{expect};
+ghost use Rattle.mvm_check.specs.Starts.{starts_of, begins};
+ghost use Rattle.mvm_check.specs.Instructions.{kind_of, stands, rows_begin, switch_begins, has_targets, is_last, has_locals, goes_on, kept, keeps};
+
+use crate::constants::Constants;
+use crate::fault::CheckKind;
+use crate::locals::locals_of;
+use crate::operands::has_operands;
+use crate::starts::Starts;
+use mvm_insn::{At, Insn, InsnFault, Switch, insn_at};
+use mvm_layout::Code;
+
+fn kind_of(fault: InsnFault) -> CheckKind
+    ensures { result ≡ kind_of fault }
+{
+    match fault {
+        InsnFault::Unknown(_) => CheckKind::BadOpcode,
+        InsnFault::OffEnd => CheckKind::BadOpcode,
+        InsnFault::Unsupported(_) => CheckKind::Unsupported,
+        InsnFault::Switch => CheckKind::BadSwitch,
+    }
+}
+
+/// The kinds 1 to 3: an instruction stands at the place.
+#[tactic(auto, unfolding(crate::specs::Instructions::stands))]
+pub(crate) fn stands(code: &[u8], pc: u32) -> Result<(), CheckKind>
+    requires { length code.now < 2 ^ 32 }
+    ensures { result ≡ stands code.now pc }
+{
+    match insn_at(code, pc) {
+        Ok(_) => Ok(()),
+        Err(fault) => Err(kind_of(fault)),
+    }
+}
+
+fn rows_begin(starts: &Starts, choice: &Switch) -> bool
+    ensures { result ≡ rows_begin starts.now choice.now.rows }
+{
+    for i in 0..choice.rows() {
+        if !starts.begins(choice.row(i).target) {
+            return false;
+        }
+    }
+    true
+}
+
+#[tactic(auto, unfolding(crate::specs::Instructions::switch_begins))]
+fn switch_begins(starts: &Starts, choice: &Switch) -> bool
+    ensures { result ≡ switch_begins starts.now choice.now }
+{
+    starts.begins(choice.otherwise()) && rows_begin(starts, choice)
+}
+
+#[tactic(auto, unfolding(crate::specs::Instructions::has_targets))]
+fn has_targets(starts: &Starts, insn: &Insn) -> bool
+    ensures { result ≡ has_targets starts.now insn.now }
+{
+    match insn {
+        Insn::Jump { target, .. } => starts.begins(*target),
+        Insn::Choice { rows, .. } => switch_begins(starts, rows),
+        _ => true,
+    }
+}
+
+#[tactic(auto, unfolding(crate::specs::Instructions::is_last))]
+fn is_last(insn: &Insn) -> bool
+    ensures { result ≡ is_last insn.now }
+{
+    match insn {
+        Insn::Jump { op, .. } => matches!(*op, 0xa7 | 0xc8),
+        Insn::Choice { .. } => true,
+        Insn::Plain { op } => matches!(*op, 0xac..=0xad | 0xb0..=0xb1 | 0xbf),
+        _ => false,
+    }
+}
+
+fn has_locals(room: bool, code: &Code, pc: u32, insn: &Insn) -> bool
+    ensures { result ≡ has_locals room code.now pc insn.now }
+{
+    locals_of(insn) <= u32::from(code.max_locals) && (room || pc != 0)
+}
+
+fn goes_on(code: &Code, found: &At) -> bool
+    ensures { result ≡ goes_on code.now found.now }
+{
+    found.next as usize != code.bytes.len() || is_last(&found.insn)
+}
+
+/// The first fault of the kinds 4 to 7 of the instruction at a place.
+#[tactic(auto, unfolding(crate::specs::Instructions::kept))]
+fn kept(
+    constants: &Constants,
+    room: bool,
+    code: &Code,
+    starts: &Starts,
+    pc: u32,
+    found: &At,
+) -> Result<(), CheckKind>
+    requires { starts.now ≡ starts_of code.now.bytes }
+    ensures { result ≡ kept constants.now room code.now pc found.now }
+{
+    if !has_targets(starts, &found.insn) {
+        return Err(CheckKind::BadTarget);
+    }
+    if !has_operands(constants, &found.insn) {
+        return Err(CheckKind::BadIndex);
+    }
+    if !has_locals(room, code, pc, &found.insn) {
+        return Err(CheckKind::BadLocal);
+    }
+    if !goes_on(code, found) {
+        return Err(CheckKind::OffEnd);
+    }
+    Ok(())
+}
+
+/// The kinds 4 to 7: the instruction at a place keeps the rules.
+#[tactic(auto, unfolding(crate::specs::Instructions::keeps))]
+pub(crate) fn keeps(
+    constants: &Constants,
+    room: bool,
+    code: &Code,
+    starts: &Starts,
+    pc: u32,
+) -> Result<(), CheckKind>
+    requires short { length code.now.bytes < 2 ^ 32 }
+    requires starts { starts.now ≡ starts_of code.now.bytes }
+    ensures { result ≡ keeps constants.now room code.now pc }
+{
+    match insn_at(code.bytes.as_slice(), pc) {
+        Ok(found) => kept(constants, room, code, starts, pc, &found),
+        Err(_) => Ok(()),
+    }
+}

@@ -1,0 +1,82 @@
+-- What bytes are read as is what they spell, and keeps the rules.
+use Rattle.std.proofs.Common.{◌≡◌, ◌≢◌, ℕ, List, length, ◌<◌, ◌^◌, Option, Some, None, Result, Ok, Err, refl, sym, ap, subst, ◌∙◌, inl, inr, ◌⊎◌}
+use Rattle.mvm_base.specs.Answers.{◌>>=◌}
+use Rattle.mvm_layout.specs.Answers.{Fails, AnswersInMemory}
+use Rattle.mvm_layout.specs.Layout.{layout, laid}
+use Rattle.mvm_layout.specs.declared.fault.ClassFault.{ClassFault}
+use Rattle.mvm_layout.specs.declared.fault.ClassFault.TheVariants.{Magic, Version, Truncated, Trailing, Pool, Shape, Unsupported, OutOfMemory}
+use Rattle.mvm_layout.specs.declared.info.ClassInfo.{ClassInfo}
+use Rattle.mvm_layout.specs.declared.parts.Parts.{Parts}
+use Rattle.mvm_layout.proofs.Exactness.{bind_ok}
+use Rattle.mvm_layout.proofs.Layouts.{laid-sound, laid-complete}
+use Rattle.mvm_shape.specs.Rules.{◌and_then◌}
+use Rattle.mvm_shape.specs.Shape.{linked, rules, parts_of, shaped}
+use Rattle.mvm_classfile.specs.Reading.{Reads, reading, fault_in, fault_of, Says, AreBytes, IsClassFile, IsParts, HasFault}
+
+abbrev done : {A : Type 0} → A → Result A ClassFault
+done x = Ok x
+
+-- both rules are kept
+pub both : {A : Type 0} (r : Result (Unit {0}) ClassFault) (next : Result A ClassFault) (x : A) → (r and_then next) ≡ Ok x → (r ≡ Ok tt) × (next ≡ Ok x)
+both (Ok done) next x e = (refl, e)
+both (Err fault) next x e = absurd cc
+
+pub reading-sound : (text : List ℕ) (parts : Parts) → reading text ≡ Ok parts → Reads text parts
+unfolding reading shaped
+reading-sound text parts e =
+    let a = bind_ok (laid text) shaped parts e in
+    let s = both (linked a.0.pool and_then rules a.0) (Ok (parts_of a.0)) parts a.2 in
+    let r = both (linked a.0.pool) (rules a.0) tt s.0 in
+    let k : parts_of a.0 ≡ parts = cc in
+    record { info = a.0; spelled = laid-sound text a.0 a.1; linked = r.0; kept = r.1; parts_are = sym k }
+
+pub reading-complete : (text : List ℕ) (parts : Parts) → Reads text parts → reading text ≡ Ok parts
+unfolding reading shaped
+reading-complete text parts r = rw (laid-complete text r.info r.spelled, r.linked, r.kept, r.parts_are) refl
+
+-- ---- what an answer says
+
+told : (text : List ℕ) (fault : ClassFault) → reading text ≡ Err fault → fault_of text ≡ Some fault
+unfolding fault_of
+told text fault e = rw e refl
+
+pub says : (text : List ℕ) (answer : Result Parts ClassFault) → AnswersInMemory answer (reading text) → Says text answer
+says text (Ok parts) h = reading-sound text parts h
+says text (Err OutOfMemory) h = tt
+says text (Err Magic) h = told text Magic (h (λ k. cc))
+says text (Err (Version n)) h = told text (Version n) (h (λ k. cc))
+says text (Err (Truncated n)) h = told text (Truncated n) (h (λ k. cc))
+says text (Err (Trailing n)) h = told text (Trailing n) (h (λ k. cc))
+says text (Err (Pool n)) h = told text (Pool n) (h (λ k. cc))
+says text (Err (Shape n)) h = told text (Shape n) (h (λ k. cc))
+says text (Err (Unsupported n)) h = told text (Unsupported n) (h (λ k. cc))
+
+pub reads : (text : List ℕ) (answer : Result Parts ClassFault) → AnswersInMemory answer (reading text) → (parts : Parts) → Reads text parts → AnswersInMemory answer (Ok parts)
+reads text answer h parts r = subst (λ (d : Result Parts ClassFault). AnswersInMemory answer d) (reading-complete text parts r) h
+
+fault_is : (r : Result Parts ClassFault) (fault : ClassFault) → fault_in r ≡ Some fault → r ≡ Err fault
+fault_is (Ok parts) fault e = absurd cc
+fault_is (Err other) fault e = cc
+
+pub faults : (text : List ℕ) (answer : Result Parts ClassFault) → AnswersInMemory answer (reading text) → (fault : ClassFault) → fault_of text ≡ Some fault → AnswersInMemory answer (Err fault)
+unfolding fault_of
+faults text answer h fault e = subst (λ (d : Result Parts ClassFault). AnswersInMemory answer d) (fault_is (reading text) fault e) h
+
+pub is_class_file : (text : List ℕ) (parts : Parts) → AreBytes text → length text < 2 ^ 32 → reading text ≡ Ok parts → IsClassFile parts
+is_class_file text parts bytes short e = record { text = text; bytes = bytes; short = short; reads = reading-sound text parts e }
+
+-- ---- what holds of all bytes
+
+pub one : (text : List ℕ) (a b : Parts) → Reads text a → Reads text b → a ≡ b
+one text a b r s = let e = sym (reading-complete text a r) ∙ reading-complete text b s in cc
+
+pub never_both : (text : List ℕ) (parts : Parts) (fault : ClassFault) → Reads text parts → fault_of text ≡ Some fault → ⊥
+unfolding fault_of
+never_both text parts fault r e = let k = sym (reading-complete text parts r) ∙ fault_is (reading text) fault e in cc
+
+pub either : (text : List ℕ) → IsParts text ⊎ HasFault text
+either text = by (reading text) refl
+  where
+    by : (r : Result Parts ClassFault) → reading text ≡ r → IsParts text ⊎ HasFault text
+    by (Ok parts) e = inl (parts, reading-sound text parts e)
+    by (Err fault) e = inr (fault, told text fault e)
