@@ -1,5 +1,5 @@
 -- The rules of one instruction (JVM Specification 4.9.1, 4.9.2).
-use Rattle.std.specs.Prelude.{ℕ, List, length, Bool, true, false, not, nat_le, ◌&&◌, ◌||◌, ◌==◌, if◌then◌else◌, Result, Ok, Err}
+use Rattle.std.specs.Prelude.{ℕ, List, length, Bool, true, false, not, nat_le, ◌&&◌, ◌||◌, ◌==◌, Result, Ok, Err}
 use Rattle.std.specs.List.{list_all}
 use Rattle.mvm_insn.specs.Insns.{insn}
 use Rattle.mvm_insn.specs.Rows.{SwitchParts}

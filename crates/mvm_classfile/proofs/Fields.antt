@@ -108,7 +108,7 @@ constant_sound_at pool names m true (a ∷ more) serves fits s f k =
 
 constant_sound : (pool : List Item) (names : Names) (is_interface : Bool) (before : List MemberInfo) (m : MemberInfo) → Serves pool (codes "ConstantValue") names.constant → MemberFits m → field_rule pool is_interface before m ≡ kept
     → ConstantSound pool names m.flags m.desc (field_part pool m).constant
-unfolding field_part
+unfolding field_part field_rule
 constant_sound pool names is_interface before m serves fits e = constant_sound_at pool names m (is_static m.flags) _ serves fits refl refl (field_kept pool is_interface (is_repeated pool before m) m e).attributes
 
 -- ---- the field built anew
@@ -129,7 +129,7 @@ rule_at : (pool : List Item) (names : Names) (is_interface : Bool) (before : Lis
     → FieldKept pool is_interface (is_repeated pool before (record { at = at; flags = flags; name = name; desc = desc; attributes = old })) (record { at = at; flags = flags; name = name; desc = desc; attributes = old })
     → (other : List MemberInfo) → map key before ≡ map key other
     → field_rule pool is_interface other (field_info names place (record { flags = flags; name = name; desc = desc; constant = constant; code = None })) ≡ kept
-unfolding field_info constant_infos field_attribute
+unfolding field_info constant_infos field_attribute field_rule
 rule_at pool names is_interface before at place flags name desc None old c k other e =
     let new = field_info names place (record { flags = flags; name = name; desc = desc; constant = None; code = None }) in
     field_kept_again pool is_interface (is_repeated pool other new) new
@@ -156,7 +156,7 @@ field_same pool names at m c = same_at pool names at m.flags m.name m.desc (fiel
 
 pub field_rule_again : (pool : List Item) (names : Names) (is_interface : Bool) (before other : List MemberInfo) (at : ℕ) (m : MemberInfo) → ConstantSound pool names m.flags m.desc (field_part pool m).constant
     → field_rule pool is_interface before m ≡ kept → map key before ≡ map key other → field_rule pool is_interface other (field_info names at (field_part pool m)) ≡ kept
-unfolding field_part
+unfolding field_part field_rule
 field_rule_again pool names is_interface before other at m c k e =
     rule_at pool names is_interface before m.at at m.flags m.name m.desc (field_part pool m).constant m.attributes c (field_kept pool is_interface (is_repeated pool before m) m k) other e
 

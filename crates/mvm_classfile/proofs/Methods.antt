@@ -124,7 +124,7 @@ code_sound_at pool names m false (a ∷ more) serves fits s f n k =
 
 code_sound : (pool : List Item) (names : Names) (is_interface : Bool) (before : List MemberInfo) (m : MemberInfo) → Serves pool (codes "Code") names.code → MemberFits m → method_rule pool is_interface before m ≡ kept
     → CodeSound pool names m.flags (method_part pool m).code
-unfolding method_part
+unfolding method_part method_rule
 code_sound pool names is_interface before m serves fits e =
     let k = method_kept pool is_interface (is_repeated pool before m) m e in
     code_sound_at pool names m (is_native_or_abstract m.flags) _ serves fits refl refl k.1 k.0.attributes
@@ -144,7 +144,7 @@ rule_at : (pool : List Item) (names : Names) (is_interface : Bool) (before : Lis
     → MethodKept pool is_interface (is_repeated pool before (record { at = at; flags = flags; name = name; desc = desc; attributes = old })) (record { at = at; flags = flags; name = name; desc = desc; attributes = old })
     → (other : List MemberInfo) → map key before ≡ map key other
     → method_rule pool is_interface other (method_info names place (record { flags = flags; name = name; desc = desc; constant = None; code = c })) ≡ kept
-unfolding method_info code_infos method_attribute named_attribute
+unfolding method_info code_infos method_attribute named_attribute method_rule
 rule_at pool names is_interface before at place flags name desc None old c k other e =
     let new = method_info names place (record { flags = flags; name = name; desc = desc; constant = None; code = None }) in
     method_kept_again pool is_interface (is_repeated pool other new) new
@@ -171,7 +171,7 @@ method_same pool names at m c = same_at pool names at m.flags m.name m.desc (met
 
 pub method_rule_again : (pool : List Item) (names : Names) (is_interface : Bool) (before other : List MemberInfo) (at : ℕ) (m : MemberInfo) → CodeSound pool names m.flags (method_part pool m).code
     → method_rule pool is_interface before m ≡ kept → map key before ≡ map key other → method_rule pool is_interface other (method_info names at (method_part pool m)) ≡ kept
-unfolding method_part
+unfolding method_part method_rule
 method_rule_again pool names is_interface before other at m c k e =
     rule_at pool names is_interface before m.at at m.flags m.name m.desc (method_part pool m).code m.attributes c (method_kept pool is_interface (is_repeated pool before m) m k).0 other e
 

@@ -20,3 +20,6 @@ pub use laws::reading_law;
 pub use mvm_layout::{ClassFault, Code, Item, Member, Parts, Row};
 pub use read::read_class;
 pub use write::write_class;
+
+#[cfg(test)]
+mod tests;
