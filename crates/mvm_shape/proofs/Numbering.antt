@@ -1,7 +1,6 @@
 -- Numbers for texts, alike where the texts are equal.
-use Rattle.std.proofs.Common.{◌≡◌, ℕ, zero, suc, ◌+◌, ◌-◌, ◌<◌, Bool, true, false, ◌&&◌, ◌||◌, cond, List, [], ◌∷◌, ◌++◌, length, length-append, ◌≤◌, Option, Some, None, ◌⊎◌, inl, inr, refl, sym, ap, ◌∙◌, arith}
-use Rattle.std.specs.Prelude.{slice_get, slice_index, ◌==◌}
-use Rattle.std.specs.Bool.{Decides}
+use Rattle.std.proofs.Common.{◌≡◌, ℕ, zero, suc, ◌-◌, ◌<◌, Bool, true, false, ◌&&◌, ◌||◌, cond, List, [], ◌∷◌, ◌++◌, length, length-append, ◌≤◌, Option, Some, None, ◌⊎◌, inl, inr, refl, sym, ap, ◌∙◌, arith}
+use Rattle.std.specs.Prelude.{slice_index, ◌==◌}
 use Rattle.std.specs.List.{list_any}
 use Rattle.std.specs.Map.{update}
 use Rattle.std.specs.BTreeSet as sorted
@@ -20,9 +19,9 @@ use Rattle.std.proofs.lemmas.Slice.Eq.{bytes_eq-Decides}
 use Rattle.std.proofs.lemmas.Grind.{common_steps}
 use Rattle.mvm_layout.specs.declared.parts.Item.{Item}
 use Rattle.mvm_layout.specs.declared.info.MemberInfo.{MemberInfo}
-use Rattle.mvm_shape.specs.Pool.{text_of, text}
-use Rattle.mvm_shape.specs.Members.{same_text, is_same, is_repeated}
-use Rattle.mvm_shape.specs.Numbers.{Numbered, text_at, AreNumbers, number_at, is_number, is_pair, has_pair, pair_cmp, holds_pair, Holds, Adds}
+use Rattle.mvm_shape.specs.Pool.{text}
+use Rattle.mvm_shape.specs.Members.{same_text, is_same}
+use Rattle.mvm_shape.specs.Numbers.{Numbered, text_at, AreNumbers, number_at, is_number, is_pair, has_pair, pair_cmp, holds_pair, Adds}
 
 -- ---- one text
 

@@ -1,11 +1,10 @@
 -- The table of what is known of the texts of the constant pool, read by index.
-use Rattle.std.proofs.Common.{◌≡◌, ℕ, zero, suc, ◌-◌, ◌<◌, List, Option, Some, None, Result, Ok, Err, Bool, true, if◌then◌else◌, refl, arith}
+use Rattle.std.proofs.Common.{◌≡◌, ℕ, zero, suc, ◌-◌, ◌<◌, List, Option, Some, None, Result, Ok, Err, true, if◌then◌else◌, refl, arith}
 use Rattle.std.specs.Prelude.{slice_get}
 use Rattle.std.specs.Option.{option_map}
 use Rattle.std.proofs.lemmas.Option.{slice_get-map}
 use Rattle.mvm_layout.specs.declared.parts.Item.{Item}
 use Rattle.mvm_layout.specs.declared.parts.Item.TheVariants.{Utf8}
-use Rattle.mvm_layout.specs.declared.fault.ClassFault.{ClassFault}
 use Rattle.mvm_base.specs.Descriptor.{field_of, method_of, slots}
 use Rattle.mvm_base.specs.declared.descriptor.FieldShape.{FieldShape}
 use Rattle.mvm_base.specs.declared.descriptor.MethodShape.{MethodShape}

@@ -1,5 +1,5 @@
 -- What members ask of the texts of the constant pool, told once for each text.
-use Rattle.std.specs.Prelude.{ℕ, ◌+◌, nat_le, Bool, true, false, List, map, Option, Some, None, Result, Ok, Err}
+use Rattle.std.specs.Prelude.{ℕ, ◌+◌, nat_le, Bool, false, List, map, Option, Some, None, Result, Ok, Err}
 use Rattle.mvm_base.specs.Descriptor.{field_of, method_of, slots}
 use Rattle.mvm_base.specs.declared.descriptor.FieldShape.{FieldShape}
 use Rattle.mvm_base.specs.declared.descriptor.MethodShape.{MethodShape}

@@ -1,8 +1,8 @@
 -- The constant pool by index (JVM Specification 4.4): entries, what they name, and what they should name.
-use Rattle.std.specs.Prelude.{ℕ, zero, suc, List, Bool, true, false, ◌&&◌, Option, Some, None, slice_get, codes}
+use Rattle.std.specs.Prelude.{ℕ, zero, suc, List, Bool, true, false, ◌&&◌, Option, Some, None, slice_get}
 use Rattle.std.specs.Str.{bytes_eq}
 use Rattle.mvm_layout.specs.declared.parts.Item.{Item}
-use Rattle.mvm_layout.specs.declared.parts.Item.TheVariants.{Utf8, Integer, Float, Long, Double, Upper, Class, Str, Fieldref, Methodref, InterfaceMethodref, NameAndType, MethodHandle, MethodType, InvokeDynamic}
+use Rattle.mvm_layout.specs.declared.parts.Item.TheVariants.{Utf8, Class, Str, Fieldref, Methodref, InterfaceMethodref, NameAndType, MethodType, InvokeDynamic}
 
 -- the entry of an index, which is counted from 1
 abbrev pub entry : List Item → ℕ → Option Item

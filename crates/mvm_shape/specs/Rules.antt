@@ -1,6 +1,5 @@
 -- Rules that are tested in an order: the first fault is the answer.
-use Rattle.std.specs.Prelude.{◌≡◌, ℕ, ◌+◌, List, [], ◌∷◌, ◌++◌, Bool, true, false, Result, Ok, Err}
-use Rattle.mvm_base.specs.Answers.{◌>>=◌}
+use Rattle.std.specs.Prelude.{ℕ, ◌+◌, List, [], ◌∷◌, ◌++◌, Bool, true, false, Result, Ok, Err}
 use Rattle.mvm_layout.specs.declared.fault.ClassFault.{ClassFault}
 
 -- the fault, where the test does not hold

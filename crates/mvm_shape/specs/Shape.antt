@@ -1,5 +1,5 @@
 -- What a class file that is laid out says, or the first fault behind its layout (JVM Specification 4.1, 4.4 to 4.7).
-use Rattle.std.specs.Prelude.{ℕ, ◌+◌, ◌*◌, List, [], map, Bool, not, ◌&&◌, ◌||◌, ◌==◌, Result, Ok, Err, codes}
+use Rattle.std.specs.Prelude.{ℕ, ◌+◌, ◌*◌, List, [], map, Bool, not, ◌&&◌, ◌||◌, ◌==◌, Result, Ok, codes}
 use Rattle.mvm_layout.specs.declared.fault.ClassFault.{ClassFault}
 use Rattle.mvm_layout.specs.declared.fault.ClassFault.TheVariants.{Pool, Shape}
 use Rattle.mvm_layout.specs.declared.parts.Item.{Item}

@@ -82,6 +82,7 @@ fn is_method_name(units: &[u16]) -> bool
         || (is_unqualified(units) && has_no_bracket(units))
 }
 
+// A longer text stands in no file, and counts as want of memory.
 fn is_short(text: &Name) -> bool
     ensures { IsTrue result ↔ (length text.now < 2 ^ 32) }
 {
