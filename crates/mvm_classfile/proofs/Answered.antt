@@ -1,11 +1,9 @@
 -- What bytes are read as is what they spell, and keeps the rules.
-use Rattle.std.proofs.Common.{◌≡◌, ◌≢◌, ℕ, List, length, ◌<◌, ◌^◌, Option, Some, None, Result, Ok, Err, refl, sym, ap, subst, ◌∙◌, inl, inr, ◌⊎◌}
-use Rattle.mvm_base.specs.Answers.{◌>>=◌}
-use Rattle.mvm_layout.specs.Answers.{Fails, AnswersInMemory}
-use Rattle.mvm_layout.specs.Layout.{layout, laid}
+use Rattle.std.proofs.Common.{◌≡◌, ℕ, List, length, ◌<◌, ◌^◌, Some, Result, Ok, Err, refl, sym, subst, ◌∙◌, inl, inr, ◌⊎◌}
+use Rattle.mvm_layout.specs.Answers.{AnswersInMemory}
+use Rattle.mvm_layout.specs.Layout.{laid}
 use Rattle.mvm_layout.specs.declared.fault.ClassFault.{ClassFault}
 use Rattle.mvm_layout.specs.declared.fault.ClassFault.TheVariants.{Magic, Version, Truncated, Trailing, Pool, Shape, Unsupported, OutOfMemory}
-use Rattle.mvm_layout.specs.declared.info.ClassInfo.{ClassInfo}
 use Rattle.mvm_layout.specs.declared.parts.Parts.{Parts}
 use Rattle.mvm_layout.proofs.Exactness.{bind_ok}
 use Rattle.mvm_layout.proofs.Layouts.{laid-sound, laid-complete}

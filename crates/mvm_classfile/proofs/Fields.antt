@@ -1,26 +1,25 @@
 -- Fields that are built anew of what is kept of them keep the rules, and are the same.
-use Rattle.std.proofs.Common.{◌≡◌, ℕ, zero, suc, ◌+◌, ◌<◌, ◌≤◌, ◌^◌, Bool, true, false, cond, not, List, [], ◌∷◌, ◌++◌, length, Option, Some, None, Result, Ok, Err, refl, sym, ap, subst, ◌∙◌, append-nil, arith}
+use Rattle.std.proofs.Common.{◌≡◌, ℕ, ◌+◌, ◌<◌, ◌≤◌, ◌^◌, Bool, true, false, cond, not, List, [], ◌∷◌, ◌++◌, length, Option, Some, None, refl, sym, ap, subst, ◌∙◌, arith}
 use Rattle.std.specs.Prelude.{nat_le, ◌&&◌, ◌||◌, ◌==◌, map, codes}
-use Rattle.std.specs.List.{list_any, filter, flat_map}
+use Rattle.std.specs.List.{filter, flat_map}
 use Rattle.std.specs.Option.{option_map}
 use Rattle.std.proofs.lemmas.Bool.{eqb-true}
-use Rattle.mvm_base.specs.Endian.{big_number, big_bytes}
+use Rattle.mvm_base.specs.Endian.{big_number}
 use Rattle.mvm_layout.specs.Infos.{AttributeParts}
 use Rattle.mvm_layout.specs.Format.{spells_times}
 use Rattle.mvm_layout.specs.Layout.{attribute, attributes, member}
-use Rattle.mvm_layout.specs.declared.fault.ClassFault.{ClassFault}
 use Rattle.mvm_layout.specs.declared.fault.ClassFault.TheVariants.{Shape}
 use Rattle.mvm_layout.specs.declared.parts.Item.{Item}
 use Rattle.mvm_layout.specs.declared.parts.Member.{Member}
 use Rattle.mvm_layout.specs.declared.info.MemberInfo.{MemberInfo}
 use Rattle.mvm_shape.specs.Pool.{entry, is_utf8, text, is_text}
-use Rattle.mvm_shape.specs.Rules.{expect, ◌and_then◌, each, each_after}
-use Rattle.mvm_shape.specs.Members.{is_static, is_unqualified, holds, field_descriptor, is_named, constants_among, is_constant_of, is_constant_value, field_attribute, is_same, is_repeated, is_sound_field, tested_field, field_rule, first, index_in, field_part}
-use Rattle.mvm_classfile.specs.Writing.{u2, u4, Names, written_attribute, written_member}
+use Rattle.mvm_shape.specs.Rules.{each, each_after}
+use Rattle.mvm_shape.specs.Members.{is_static, is_unqualified, holds, field_descriptor, is_named, constants_among, is_constant_value, field_attribute, is_repeated, is_sound_field, tested_field, field_rule, first, index_in, field_part}
+use Rattle.mvm_classfile.specs.Writing.{u2, Names, written_attribute, written_member}
 use Rattle.mvm_classfile.proofs.Plain.{plain_u2, number_again}
 use Rattle.mvm_classfile.proofs.Pieces.{Each, AttributeFits, MemberFits, attribute_again, member_again, counted_again}
-use Rattle.mvm_classfile.proofs.Named.{name_index_is, text_is_utf8}
-use Rattle.mvm_classfile.proofs.Rule.{kept, holds_true, holds_again, both_hold, and_again, both, both_again, field_desc_again, Found, first_found, key, met_again, key_more}
+use Rattle.mvm_classfile.proofs.Named.{text_is_utf8}
+use Rattle.mvm_classfile.proofs.Rule.{kept, holds_true, holds_again, both_hold, and_again, both, both_again, field_desc_again, first_found, key, met_again, key_more}
 use Rattle.mvm_classfile.proofs.Plain.{number_lt}
 
 -- the index that the names have names this text, and is no higher than any that does
@@ -92,15 +91,28 @@ value_is true true c h e = h
 value_is true false c h e = absurd cc
 value_is false b c h e = absurd cc
 
+constant_value : (pool : List Item) (m : MemberInfo) (a : AttributeParts) (more : List AttributeParts) → MemberFits m → is_static m.flags ≡ true → filter (is_named pool (codes "ConstantValue")) m.attributes ≡ a ∷ more
+    → each (field_attribute pool m) m.attributes ≡ kept → is_constant_value pool m.desc a.content ≡ true
+unfolding field_attribute
+constant_value pool m a more fits s f k =
+    let one = first_found AttributeFits (is_named pool (codes "ConstantValue")) (field_attribute pool m) m.attributes more a fits.attributes k f in
+    let rule = holds_true _ _ one.keeps in
+    value_is (is_utf8 (entry pool a.name)) (is_named pool (codes "ConstantValue") a) (is_constant_value pool m.desc a.content) (rw s at rule) one.passes
+
+-- the first ConstantValue of a static field has two bytes
+pub constant_length : (pool : List Item) (is_interface : Bool) (before : List MemberInfo) (m : MemberInfo) (a : AttributeParts) (more : List AttributeParts) → MemberFits m → is_static m.flags ≡ true
+    → filter (is_named pool (codes "ConstantValue")) m.attributes ≡ a ∷ more → field_rule pool is_interface before m ≡ kept → length a.content ≡ 2
+unfolding field_rule
+constant_length pool is_interface before m a more fits s f k =
+    two_bytes a.content (both_hold _ _ (constant_value pool m a more fits s f (field_kept pool is_interface (is_repeated pool before m) m k).attributes)).0
+
 constant_sound_at : (pool : List Item) (names : Names) (m : MemberInfo) (is : Bool) (found : List AttributeParts) → Serves pool (codes "ConstantValue") names.constant → MemberFits m → is_static m.flags ≡ is → filter (is_named pool (codes "ConstantValue")) m.attributes ≡ found
     → each (field_attribute pool m) m.attributes ≡ kept → ConstantSound pool names m.flags m.desc (cond is (option_map index_in (first found)) None)
-unfolding field_attribute
 constant_sound_at pool names m false found serves fits s f k = tt
 constant_sound_at pool names m true [] serves fits s f k = tt
 constant_sound_at pool names m true (a ∷ more) serves fits s f k =
     let one = first_found AttributeFits (is_named pool (codes "ConstantValue")) (field_attribute pool m) m.attributes more a fits.attributes k f in
-    let rule = holds_true _ _ one.keeps in
-    let value : is_constant_value pool m.desc a.content ≡ true = value_is (is_utf8 (entry pool a.name)) (is_named pool (codes "ConstantValue") a) (is_constant_value pool m.desc a.content) (rw s at rule) one.passes in
+    let value = constant_value pool m a more fits s f k in
     let two : length a.content ≡ 2 = two_bytes a.content (both_hold _ _ value).0 in
     let n : a.content ≡ u2 (big_number 2 a.content) = plain_u2.written (big_number 2 a.content) 0 a.content one.fits.bytes (two, refl) in
     let low : names.constant < 256 ^ 2 = omega (arith, serves.low a.name one.passes, one.fits.name) in

@@ -7,3 +7,5 @@ pub mod Rule
 pub mod Fields
 pub mod Methods
 pub mod Whole
+pub mod Shorter
+pub mod Made

@@ -1,13 +1,11 @@
 -- Methods that are built anew of what is kept of them keep the rules, and are the same.
-use Rattle.std.proofs.Common.{◌≡◌, ℕ, zero, suc, ◌+◌, ◌<◌, ◌≤◌, ◌^◌, Bool, true, false, cond, not, List, [], ◌∷◌, ◌++◌, length, Option, Some, None, Result, Ok, Err, refl, sym, ap, subst, ◌∙◌, append-nil, arith}
-use Rattle.std.specs.Prelude.{nat_le, ◌&&◌, ◌||◌, ◌==◌, map, codes}
-use Rattle.std.specs.List.{list_any, filter, flat_map}
+use Rattle.std.proofs.Common.{◌≡◌, ℕ, ◌+◌, ◌<◌, ◌^◌, Bool, true, false, cond, not, List, [], ◌∷◌, ◌++◌, length, Option, Some, None, refl, sym, ap, subst, ◌∙◌, arith}
+use Rattle.std.specs.Prelude.{◌==◌, map, codes}
+use Rattle.std.specs.List.{filter, flat_map}
 use Rattle.std.proofs.lemmas.Bool.{eqb-true}
-use Rattle.mvm_base.specs.Endian.{big_number, big_bytes}
 use Rattle.mvm_layout.specs.Infos.{AttributeParts}
 use Rattle.mvm_layout.specs.Format.{spells_times}
 use Rattle.mvm_layout.specs.Layout.{attribute, attributes, member, code, code_in}
-use Rattle.mvm_layout.specs.declared.fault.ClassFault.{ClassFault}
 use Rattle.mvm_layout.specs.declared.fault.ClassFault.TheVariants.{Shape, Unsupported}
 use Rattle.mvm_layout.specs.declared.parts.Item.{Item}
 use Rattle.mvm_layout.specs.declared.parts.Code.{Code}
@@ -16,13 +14,12 @@ use Rattle.mvm_layout.specs.declared.info.MemberInfo.{MemberInfo}
 use Rattle.mvm_layout.specs.declared.info.CodeInfo.{CodeInfo}
 use Rattle.mvm_layout.proofs.Layouts.{code_in-sound, code_in-complete}
 use Rattle.mvm_shape.specs.Pool.{entry, is_utf8, text, is_text}
-use Rattle.mvm_shape.specs.Rules.{expect, ◌and_then◌, each, each_after}
-use Rattle.mvm_shape.specs.Members.{is_native_or_abstract, is_method_name, holds, method_descriptor, is_named, codes_among, named_attribute, code_attribute, method_attribute, is_same, is_repeated, is_sound_method, is_built, tested_method, method_rule, first, code_of_info, code_of, method_part}
-use Rattle.mvm_classfile.specs.Writing.{u2, u4, Names, written_attribute, written_code, written_member}
-use Rattle.mvm_classfile.proofs.Plain.{number_again}
-use Rattle.mvm_classfile.proofs.Pieces.{Each, AttributeFits, MemberFits, CodeFits, code_fits, attribute_again, member_again, counted_again}
+use Rattle.mvm_shape.specs.Rules.{each, each_after}
+use Rattle.mvm_shape.specs.Members.{is_native_or_abstract, is_method_name, holds, method_descriptor, is_named, codes_among, named_attribute, code_attribute, method_attribute, is_repeated, is_sound_method, is_built, tested_method, method_rule, first, code_of_info, code_of, method_part}
+use Rattle.mvm_classfile.specs.Writing.{u2, Names, written_attribute, written_code, written_member}
+use Rattle.mvm_classfile.proofs.Pieces.{Each, AttributeFits, MemberFits, code_fits, attribute_again, member_again, counted_again}
 use Rattle.mvm_classfile.proofs.Named.{text_is_utf8}
-use Rattle.mvm_classfile.proofs.Rule.{kept, holds_true, holds_again, both_hold, and_again, both, both_again, method_desc_again, Found, first_found, key, met_again, key_more}
+use Rattle.mvm_classfile.proofs.Rule.{kept, holds_true, holds_again, both_hold, and_again, both, both_again, method_desc_again, first_found, key, met_again, key_more}
 use Rattle.mvm_classfile.proofs.Fields.{Serves}
 
 -- ---- built anew
@@ -90,9 +87,9 @@ method_kept_again pool is_interface repeated m k few =
 -- ---- the code of a method
 
 -- a Code attribute that keeps its rule is code
-record IsIn (a : AttributeParts) : Type 0 where
-  info : CodeInfo
-  is : code_in a ≡ Some info
+pub record IsIn (a : AttributeParts) : Type 0 where
+  pub info : CodeInfo
+  pub is : code_in a ≡ Some info
 
 is_in : (pool : List Item) (a : AttributeParts) → method_attribute pool a ≡ kept → is_named pool (codes "Code") a ≡ true → IsIn a
 unfolding method_attribute
@@ -103,6 +100,15 @@ is_in pool a k named =
     by : (o : Option CodeInfo) → code_in a ≡ o → code_attribute pool a.at (code_in a) ≡ kept → IsIn a
     by (Some info) e r = record { info = info; is = e }
     by None e r = absurd (let z = rw e at r in cc)
+
+-- the first Code of a method is code
+pub first_code : (pool : List Item) (is_interface : Bool) (before : List MemberInfo) (m : MemberInfo) (a : AttributeParts) (more : List AttributeParts) → MemberFits m
+    → filter (is_named pool (codes "Code")) m.attributes ≡ a ∷ more → method_rule pool is_interface before m ≡ kept → AttributeFits a × IsIn a
+unfolding method_rule
+first_code pool is_interface before m a more fits f k =
+    let rule = (method_kept pool is_interface (is_repeated pool before m) m k).0.attributes in
+    let one = first_found AttributeFits (is_named pool (codes "Code")) (method_attribute pool) m.attributes more a fits.attributes rule f in
+    (one.fits, is_in pool a one.keeps one.passes)
 
 sound_of : (pool : List Item) (names : Names) (a : AttributeParts) (flags : ℕ) → Serves pool (codes "Code") names.code → AttributeFits a → is_named pool (codes "Code") a ≡ true → IsIn a → is_native_or_abstract flags ≡ false
     → CodeSound pool names flags (code_of (Some a))

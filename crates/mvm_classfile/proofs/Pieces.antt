@@ -1,19 +1,16 @@
 -- Attributes, members and code by their pieces: what fits where it is spelled, and what spells what is built anew.
-use Rattle.std.proofs.Common.{◌≡◌, ℕ, zero, suc, ◌+◌, ◌<◌, ◌≤◌, ◌^◌, Bool, true, false, List, [], ◌∷◌, ◌++◌, length, Option, Some, None, refl, sym, ap, subst, ◌∙◌, length-append, append-nil, append_assoc, arith}
-use Rattle.std.specs.Prelude.{nat_le, ◌&&◌}
+use Rattle.std.proofs.Common.{◌≡◌, ℕ, zero, suc, ◌+◌, ◌<◌, ◌≤◌, ◌^◌, List, [], ◌∷◌, ◌++◌, length, refl, sym, ap, subst, ◌∙◌, length-append, append_assoc, arith}
 use Rattle.std.specs.List.{flat_map}
-use Rattle.mvm_base.specs.Endian.{big_number, big_bytes}
 use Rattle.mvm_layout.specs.Infos.{AttributeParts}
-use Rattle.mvm_layout.specs.Format.{Format, bytes, number, followed, standing, mapped, passing, if_passing, spells_times, times, counted}
+use Rattle.mvm_layout.specs.Format.{Format, bytes, number, followed, spells_times, counted}
 use Rattle.mvm_layout.specs.Entries.{second}
-use Rattle.mvm_layout.specs.Layout.{content, attribute_of, attribute, attributes, member_of, member, members, interfaces, row_of, row, rows, instructions, code_of, code}
+use Rattle.mvm_layout.specs.Layout.{content, attribute_of, attribute, attributes, member_of, member, interfaces, row_of, row, rows, instructions, code_of, code}
 use Rattle.mvm_layout.specs.declared.parts.Code.{Code}
 use Rattle.mvm_layout.specs.declared.parts.Row.{Row}
-use Rattle.mvm_layout.specs.declared.parts.Member.{Member}
 use Rattle.mvm_layout.specs.declared.info.MemberInfo.{MemberInfo}
 use Rattle.mvm_layout.specs.declared.info.CodeInfo.{CodeInfo}
 use Rattle.mvm_classfile.specs.Reading.{AreBytes}
-use Rattle.mvm_classfile.specs.Writing.{u1, u2, u4, Names, written_attribute, written_row, written_code, written_attributes, constant_attribute, code_attribute, attributes_of, written_member}
+use Rattle.mvm_classfile.specs.Writing.{u2, u4, written_attribute, written_row, written_code}
 use Rattle.mvm_classfile.proofs.Plain.{Plain, left_bytes, right_bytes, number_lt, number_again, plain_u2, plain_u4, plain_bytes, plain_followed, plain_mapped, plain_passing, plain_counted, counted_lt}
 
 -- it holds of each of them
@@ -97,10 +94,26 @@ member_fits m at text b s =
 pub member_again : (flags name desc at : ℕ) (all : List AttributeParts) (text : List ℕ) → flags < 256 ^ 2 → name < 256 ^ 2 → desc < 256 ^ 2 → attributes.spells all (((at + 2) + 2) + 2) text
     → member.spells (record { at = at; flags = flags; name = name; desc = desc; attributes = all }) at (u2 flags ++ (u2 name ++ (u2 desc ++ text)))
 unfolding member
-member_again flags name desc at all text f n d s =
-    ((at, (flags, (name, (desc, all)))), (refl, (u2 flags, u2 name ++ (u2 desc ++ text), number_again 2 flags at f,
-    (u2 name, u2 desc ++ text, number_again 2 name (at + 2) n,
-    (u2 desc, text, number_again 2 desc ((at + 2) + 2) d, s, refl), refl), refl)), refl)
+member_again flags name desc at all text f n d s = (
+  (at, (flags, (name, (desc, all)))),
+  (
+    refl,
+    (
+      u2 flags,
+      u2 name ++ (u2 desc ++ text),
+      number_again 2 flags at f,
+      (
+        u2 name,
+        u2 desc ++ text,
+        number_again 2 name (at + 2) n,
+        (u2 desc, text, number_again 2 desc ((at + 2) + 2) d, s, refl),
+        refl,
+      ),
+      refl,
+    ),
+  ),
+  refl,
+)
 
 -- ---- code
 
@@ -134,14 +147,23 @@ instructions_plain = plain_passing _ _ content (λ text. u4 (length text) ++ tex
 pub record CodeFits (c : Code) (old : List ℕ) : Type 0 where
   pub spelled : (at : ℕ) → code.spells (record { code = c; attributes = [] }) at (written_code c)
   pub short : length (written_code c) ≤ length old
+  pub rows : length c.rows < 256 ^ 2
 
 no_attributes : (at : ℕ) → attributes.spells [] at (u2 0)
 unfolding attributes
 no_attributes at = counted_again attribute 0 [] at [] (omega arith) (refl, refl)
 
-at_least_two : (xs : List AttributeParts) (at : ℕ) (text : List ℕ) → attributes.spells xs at text → 2 ≤ length text
+pub at_least_two : (xs : List AttributeParts) (at : ℕ) (text : List ℕ) → attributes.spells xs at text → 2 ≤ length text
 unfolding attributes
 at_least_two xs at text s = let e : length text ≡ length s.1.0 + length s.1.1 = ap length s.1.4 ∙ length-append s.1.0 s.1.1 in omega (arith, e, s.1.2.0)
+
+rows_lt : (xs : List Row) (at : ℕ) (text : List ℕ) → AreBytes text → rows.spells xs at text → length xs < 256 ^ 2
+unfolding rows
+rows_lt xs at text b s = counted_lt row xs at text b s
+
+pub interfaces_lt : (xs : List ℕ) (at : ℕ) (text : List ℕ) → AreBytes text → interfaces.spells xs at text → length xs < 256 ^ 2
+unfolding interfaces
+interfaces_lt xs at text b s = counted_lt (number 2) xs at text b s
 
 regroup : (a b c d e f g : List ℕ) → a ++ (b ++ ((c ++ d) ++ ((e ++ f) ++ g))) ≡ a ++ b ++ c ++ d ++ e ++ f ++ g
 regroup a b c d e f g = simp append_assoc
@@ -165,12 +187,28 @@ code_fits info at text b s =
     let k = j.3 in
     let grouped = regroup (u2 x.0) (u2 x.1.0) (u4 (length x.1.1.0)) x.1.1.0 (u2 (length x.1.1.1.0)) (flat_map written_row x.1.1.1.0) (u2 0) in
     let spelled : (place : ℕ) → code.spells (record { code = (code_of x).code; attributes = [] }) place (written_code (code_of x).code) = λ place. subst (λ (t : List ℕ). code.spells (record { code = (code_of x).code; attributes = [] }) place t) grouped (
-        (x.0, (x.1.0, (x.1.1.0, (x.1.1.1.0, [])))),
-        (u2 x.0, _, again (number 2) u2 plain_u2 x.0 at place h.0 (left_bytes text h.0 h.1 h.4 b) h.2,
-        (u2 x.1.0, _, again (number 2) u2 plain_u2 x.1.0 (at + length h.0) (place + 2) i.0 (left_bytes h.1 i.0 i.1 i.4 b1) i.2,
-        (u4 (length x.1.1.0) ++ x.1.1.0, _, again instructions _ instructions_plain x.1.1.0 _ _ j.0 (left_bytes i.1 j.0 j.1 j.4 b2) j.2,
-        (u2 (length x.1.1.1.0) ++ flat_map written_row x.1.1.1.0, u2 0, again rows _ rows_plain x.1.1.1.0 _ _ k.0 (left_bytes j.1 k.0 k.1 k.4 b3) k.2, no_attributes _, refl),
-        refl), refl), refl), refl) in
+      (x.0, (x.1.0, (x.1.1.0, (x.1.1.1.0, [])))),
+      (
+        u2 x.0,
+        _,
+        again (number 2) u2 plain_u2 x.0 at place h.0 (left_bytes text h.0 h.1 h.4 b) h.2,
+        (
+          u2 x.1.0,
+          _,
+          again (number 2) u2 plain_u2 x.1.0 (at + length h.0) (place + 2) i.0 (left_bytes h.1 i.0 i.1 i.4 b1) i.2,
+          (
+            u4 (length x.1.1.0) ++ x.1.1.0,
+            _,
+            again instructions _ instructions_plain x.1.1.0 _ _ j.0 (left_bytes i.1 j.0 j.1 j.4 b2) j.2,
+            (u2 (length x.1.1.1.0) ++ flat_map written_row x.1.1.1.0, u2 0, again rows _ rows_plain x.1.1.1.0 _ _ k.0 (left_bytes j.1 k.0 k.1 k.4 b3) k.2, no_attributes _, refl),
+            refl,
+          ),
+          refl,
+        ),
+        refl,
+      ),
+      refl,
+    ) in
     let e1 : length h.0 ≡ 2 = h.2.0 in
     let e2 : length i.0 ≡ 2 = i.2.0 in
     let e3 : length j.0 ≡ length (u4 (length x.1.1.0) ++ x.1.1.0) = ap length (instructions_plain.written x.1.1.0 _ j.0 (left_bytes i.1 j.0 j.1 j.4 b2) j.2) in
@@ -178,5 +216,5 @@ code_fits info at text b s =
     let m = at_least_two x.1.1.1.1 _ k.1 k.3 in
     let whole : length (written_code (code_of x).code) ≡ 2 + (2 + (length (u4 (length x.1.1.0) ++ x.1.1.0) + (length (u2 (length x.1.1.1.0) ++ flat_map written_row x.1.1.1.0) + 2))) = sym (ap length grouped) ∙ lengths (u2 x.0) (u2 x.1.0) (u4 (length x.1.1.0) ++ x.1.1.0) (u2 (length x.1.1.1.0) ++ flat_map written_row x.1.1.1.0) (u2 0) in
     let short : length (written_code (code_of x).code) ≤ length text = no_longer (length h.0) (length i.0) _ _ _ (length text) (length h.1) (length i.1) (length j.1) (length k.1)
-        (ap length h.4 ∙ length-append h.0 h.1) (ap length i.4 ∙ length-append i.0 i.1) (ap length j.4 ∙ length-append j.0 j.1 ∙ ap (λ (z : ℕ). z + length j.1) e3) (ap length k.4 ∙ length-append k.0 k.1 ∙ ap (λ (z : ℕ). z + length k.1) e4) e1 e2 m whole in
-    subst (λ (z : CodeInfo). CodeFits z.code text) s.2 (record { spelled = spelled; short = short })
+    (ap length h.4 ∙ length-append h.0 h.1) (ap length i.4 ∙ length-append i.0 i.1) (ap length j.4 ∙ length-append j.0 j.1 ∙ ap (λ (z : ℕ). z + length j.1) e3) (ap length k.4 ∙ length-append k.0 k.1 ∙ ap (λ (z : ℕ). z + length k.1) e4) e1 e2 m whole in
+    subst (λ (z : CodeInfo). CodeFits z.code text) s.2 (record { spelled = spelled; short = short; rows = rows_lt x.1.1.1.0 (((at + length h.0) + length i.0) + length j.0) k.0 (left_bytes j.1 k.0 k.1 k.4 b3) k.2 })

@@ -1,10 +1,8 @@
 -- Rules that are kept: what each says, apart from the place that its fault would tell.
-use Rattle.std.proofs.Common.{◌≡◌, ℕ, zero, suc, ◌+◌, ◌<◌, ◌^◌, Bool, true, false, cond, not, List, [], ◌∷◌, ◌++◌, length, Option, Some, None, Result, Ok, Err, refl, sym, ap, subst, ◌∙◌, arith}
-use Rattle.std.specs.Prelude.{nat_le, ◌&&◌, ◌||◌, ◌==◌, map}
+use Rattle.std.proofs.Common.{◌≡◌, ℕ, Bool, true, false, cond, List, [], ◌∷◌, ◌++◌, Option, Some, None, Result, Ok, Err, refl, sym, ap, subst, ◌∙◌}
+use Rattle.std.specs.Prelude.{◌&&◌, ◌||◌, map}
 use Rattle.std.specs.List.{list_any, filter}
 use Rattle.std.proofs.lemmas.List.{map-append}
-use Rattle.mvm_base.specs.declared.descriptor.FieldShape.{FieldShape}
-use Rattle.mvm_base.specs.declared.descriptor.MethodShape.{MethodShape}
 use Rattle.mvm_base.specs.declared.descriptor.DescFault.{DescFault}
 use Rattle.mvm_base.specs.declared.descriptor.DescFault.TheVariants as desc_fault
 use Rattle.mvm_base.specs.Descriptor.{field_of, method_of}
@@ -12,8 +10,8 @@ use Rattle.mvm_layout.specs.declared.fault.ClassFault.{ClassFault}
 use Rattle.mvm_layout.specs.declared.parts.Item.{Item}
 use Rattle.mvm_layout.specs.declared.info.MemberInfo.{MemberInfo}
 use Rattle.mvm_shape.specs.Pool.{text}
-use Rattle.mvm_shape.specs.Rules.{expect, ◌and_then◌, each_from, each, each_after}
-use Rattle.mvm_shape.specs.Members.{parsed, field_descriptor, method_descriptor, has_few_parameters, same_text, is_same, is_repeated, first}
+use Rattle.mvm_shape.specs.Rules.{expect, ◌and_then◌, each}
+use Rattle.mvm_shape.specs.Members.{parsed, field_descriptor, method_descriptor, has_few_parameters, same_text, is_same, is_repeated}
 use Rattle.mvm_classfile.proofs.Pieces.{Each}
 
 abbrev pub kept : Result (Unit {0}) ClassFault

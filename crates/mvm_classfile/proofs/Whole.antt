@@ -1,32 +1,30 @@
 -- What is written of a class file reads as the class file again.
-use Rattle.std.proofs.Common.{◌≡◌, ℕ, zero, suc, ◌+◌, ◌*◌, ◌<◌, ◌≤◌, ◌^◌, Bool, true, false, List, [], ◌∷◌, ◌++◌, length, Option, Some, None, Result, Ok, Err, refl, sym, ap, subst, ◌∙◌, append-nil, append_assoc, arith}
-use Rattle.std.specs.Prelude.{nat_le, ◌&&◌, ◌||◌, ◌==◌, map, codes}
+use Rattle.std.proofs.Common.{◌≡◌, ℕ, ◌+◌, ◌*◌, ◌<◌, ◌^◌, Bool, true, false, List, [], ◌∷◌, ◌++◌, length, Some, refl, sym, ap, subst, ◌∙◌, append_assoc, arith}
+use Rattle.std.specs.Prelude.{map, codes}
 use Rattle.std.specs.List.{flat_map}
 use Rattle.std.proofs.lemmas.List.{length-map}
-use Rattle.mvm_layout.specs.Infos.{AttributeParts}
-use Rattle.mvm_layout.specs.Format.{Format, number, followed, standing, passing, if_passing, spells_times, counted}
+use Rattle.mvm_layout.specs.Format.{if_passing, spells_times}
 use Rattle.mvm_layout.specs.Entries.{pool}
 use Rattle.mvm_layout.specs.Layout.{attribute, attributes, member, members, interfaces, magic, major, body, Body, info_of, layout}
-use Rattle.mvm_layout.specs.declared.fault.ClassFault.{ClassFault}
 use Rattle.mvm_layout.specs.declared.fault.ClassFault.TheVariants.{Shape}
 use Rattle.mvm_layout.specs.declared.parts.Item.{Item}
 use Rattle.mvm_layout.specs.declared.parts.Member.{Member}
 use Rattle.mvm_layout.specs.declared.parts.Parts.{Parts}
 use Rattle.mvm_layout.specs.declared.info.MemberInfo.{MemberInfo}
 use Rattle.mvm_layout.specs.declared.info.ClassInfo.{ClassInfo}
-use Rattle.mvm_shape.specs.Pool.{entry, is_class, text, is_text}
-use Rattle.mvm_shape.specs.Rules.{expect, ◌and_then◌, each_from, each, each_after}
-use Rattle.mvm_shape.specs.Members.{field_rule, method_rule, named_attribute, field_part, method_part}
+use Rattle.mvm_shape.specs.Pool.{entry, is_class, text}
+use Rattle.mvm_shape.specs.Rules.{expect, each_from, each_after}
+use Rattle.mvm_shape.specs.Members.{field_rule, method_rule, field_part, method_part}
 use Rattle.mvm_shape.specs.Shape.{linked, is_interface, has_superclass, are_interfaces, header, rules, parts_of}
 use Rattle.mvm_classfile.specs.Reading.{AreBytes, Reads, IsClassFile}
-use Rattle.mvm_classfile.specs.Writing.{u2, u4, Names, names_in, written_pool, written_member, written_members, written}
-use Rattle.mvm_classfile.proofs.Plain.{Plain, left_bytes, right_bytes, number_lt, number_again, plain_u2, plain_u4, counted_lt}
+use Rattle.mvm_classfile.specs.Writing.{u2, u4, names_in, written_pool, written_member, written_members, written}
+use Rattle.mvm_classfile.proofs.Plain.{left_bytes, right_bytes, number_lt, number_again, plain_u2, counted_lt}
 use Rattle.mvm_classfile.proofs.Items.{pool_plain}
 use Rattle.mvm_classfile.proofs.Named.{name_index_is}
 use Rattle.mvm_classfile.proofs.Pieces.{Each, MemberFits, member_fits, counted_each, counted_again, again, interfaces_plain}
 use Rattle.mvm_classfile.proofs.Rule.{kept, holds_true, holds_again, both, both_again}
-use Rattle.mvm_classfile.proofs.Fields.{Serves, FieldsAgain, fields_again}
-use Rattle.mvm_classfile.proofs.Methods.{MethodsAgain, methods_again}
+use Rattle.mvm_classfile.proofs.Fields.{Serves, fields_again}
+use Rattle.mvm_classfile.proofs.Methods.{methods_again}
 
 -- ---- what a class file that is spelled has
 
@@ -158,31 +156,72 @@ body_again : (place flags this super : ℕ) (is : List ℕ) (fields methods : Li
     → members.spells fields ((((place + 2) + 2) + 2) + length it) ft → members.spells methods (((((place + 2) + 2) + 2) + length it) + length ft) mt
     → body.spells ((place, flags), (this, (super, (is, (fields, (methods, [])))))) place (u2 flags ++ (u2 this ++ (u2 super ++ (it ++ (ft ++ (mt ++ u2 0))))))
 unfolding body
-body_again place flags this super is fields methods it ft mt f t s i fs ms =
-    (u2 flags, u2 this ++ (u2 super ++ (it ++ (ft ++ (mt ++ u2 0)))), (refl, number_again 2 flags place f),
-    (u2 this, u2 super ++ (it ++ (ft ++ (mt ++ u2 0))), number_again 2 this (place + 2) t,
-    (u2 super, it ++ (ft ++ (mt ++ u2 0)), number_again 2 super ((place + 2) + 2) s,
-    (it, ft ++ (mt ++ u2 0), i (((place + 2) + 2) + 2),
-    (ft, mt ++ u2 0, fs,
-    (mt, u2 0, ms, none_again ((((((place + 2) + 2) + 2) + length it) + length ft) + length mt), refl), refl), refl), refl), refl), refl)
+body_again place flags this super is fields methods it ft mt f t s i fs ms = (
+  u2 flags,
+  u2 this ++ (u2 super ++ (it ++ (ft ++ (mt ++ u2 0)))),
+  (refl, number_again 2 flags place f),
+  (
+    u2 this,
+    u2 super ++ (it ++ (ft ++ (mt ++ u2 0))),
+    number_again 2 this (place + 2) t,
+    (
+      u2 super,
+      it ++ (ft ++ (mt ++ u2 0)),
+      number_again 2 super ((place + 2) + 2) s,
+      (
+        it,
+        ft ++ (mt ++ u2 0),
+        i (((place + 2) + 2) + 2),
+        (
+          ft,
+          mt ++ u2 0,
+          fs,
+          (mt, u2 0, ms, none_again ((((((place + 2) + 2) + 2) + length it) + length ft) + length mt), refl),
+          refl,
+        ),
+        refl,
+      ),
+      refl,
+    ),
+    refl,
+  ),
+  refl,
+)
 
 layout_again : (minor major_ : ℕ) (items : List Item) (x : Body) (pt bt : List ℕ) → minor < 256 ^ 2 → ((at : ℕ) → major.spells major_ at (u2 major_)) → ((at : ℕ) → pool.spells items at pt) → body.spells x (8 + length pt) bt
     → layout.spells (info_of (0xCAFEBABE, (minor, (major_, (items, x))))) 0 (u4 0xCAFEBABE ++ (u2 minor ++ (u2 major_ ++ (pt ++ bt))))
 unfolding layout
-layout_again minor major_ items x pt bt m v p b =
-    ((0xCAFEBABE, (minor, (major_, (items, x)))),
-    (u4 0xCAFEBABE, u2 minor ++ (u2 major_ ++ (pt ++ bt)), magic_again 0,
-    (u2 minor, u2 major_ ++ (pt ++ bt), number_again 2 minor 4 m,
-    (u2 major_, pt ++ bt, v 6,
-    (pt, bt, p 8, b, refl), refl), refl), refl), refl)
+layout_again minor major_ items x pt bt m v p b = (
+  (0xCAFEBABE, (minor, (major_, (items, x)))),
+  (
+    u4 0xCAFEBABE,
+    u2 minor ++ (u2 major_ ++ (pt ++ bt)),
+    magic_again 0,
+    (
+      u2 minor,
+      u2 major_ ++ (pt ++ bt),
+      number_again 2 minor 4 m,
+      (
+        u2 major_,
+        pt ++ bt,
+        v 6,
+        (pt, bt, p 8, b, refl),
+        refl,
+      ),
+      refl,
+    ),
+    refl,
+  ),
+  refl,
+)
 
 -- ---- the rules
 
-interfaces_kept : (pool : List Item) (at other n : ℕ) (xs : List ℕ) → each_from n (λ k index. expect (is_class (entry pool index)) (Shape (at + 8 + 2 * k))) xs ≡ kept → each_from n (λ k index. expect (is_class (entry pool index)) (Shape (other + 8 + 2 * k))) xs ≡ kept
-interfaces_kept pool at other n [] e = refl
-interfaces_kept pool at other n (x ∷ xs) e =
-    let r = both (expect (is_class (entry pool x)) (Shape (at + 8 + 2 * n))) (each_from (n + 1) (λ k index. expect (is_class (entry pool index)) (Shape (at + 8 + 2 * k))) xs) tt e in
-    both_again _ _ (holds_again _ (Shape (other + 8 + 2 * n)) (holds_true _ _ r.0)) (interfaces_kept pool at other (n + 1) xs r.1)
+interfaces_kept : (items : List Item) (at other n : ℕ) (xs : List ℕ) → each_from n (λ k index. expect (is_class (entry items index)) (Shape (at + 8 + 2 * k))) xs ≡ kept → each_from n (λ k index. expect (is_class (entry items index)) (Shape (other + 8 + 2 * k))) xs ≡ kept
+interfaces_kept items at other n [] e = refl
+interfaces_kept items at other n (x ∷ xs) e =
+    let r = both (expect (is_class (entry items x)) (Shape (at + 8 + 2 * n))) (each_from (n + 1) (λ k index. expect (is_class (entry items index)) (Shape (at + 8 + 2 * k))) xs) tt e in
+    both_again _ _ (holds_again _ (Shape (other + 8 + 2 * n)) (holds_true _ _ r.0)) (interfaces_kept items at other (n + 1) xs r.1)
 
 moved : ClassInfo → ℕ → List MemberInfo → List MemberInfo → ClassInfo
 moved info at fields methods = record info { at = at; fields = fields; methods = methods; attributes = [] }
@@ -194,12 +233,12 @@ header_again info at fields methods e =
     let b = both _ _ tt a.0 in
     both_again _ _ (both_again _ _ (holds_again _ (Shape (at + 2)) (holds_true _ _ b.0)) (holds_again _ (Shape (at + 4)) (holds_true _ _ b.1))) (interfaces_kept info.pool info.at at 0 info.interfaces a.1)
 
-record RulesKept (info : ClassInfo) : Type 0 where
-  header : header info ≡ kept
-  fields : each_after [] (field_rule info.pool (is_interface info)) info.fields ≡ kept
-  methods : each_after [] (method_rule info.pool (is_interface info)) info.methods ≡ kept
+pub record RulesKept (info : ClassInfo) : Type 0 where
+  pub header : header info ≡ kept
+  pub fields : each_after [] (field_rule info.pool (is_interface info)) info.fields ≡ kept
+  pub methods : each_after [] (method_rule info.pool (is_interface info)) info.methods ≡ kept
 
-rules_kept : (info : ClassInfo) → rules info ≡ kept → RulesKept info
+pub rules_kept : (info : ClassInfo) → rules info ≡ kept → RulesKept info
 unfolding rules
 rules_kept info e =
     let a = both _ _ tt e in
@@ -242,8 +281,8 @@ spelled_again info fields methods fs ms fits fl f ml m =
     let it = u2 (length info.interfaces) ++ flat_map u2 info.interfaces in
     let at = 8 + length (written_pool info.pool) in
     let b = body_again at info.flags info.this_class info.super_class info.interfaces fields methods it ft mt fits.flags fits.this_class fits.super_class fits.interfaces
-        (members_again fields (length fs) ((((at + 2) + 2) + 2) + length it) (flat_map (written_member (names_in info.pool)) fs) fl f)
-        (members_again methods (length ms) (((((at + 2) + 2) + 2) + length it) + length ft) (flat_map (written_member (names_in info.pool)) ms) ml m) in
+    (members_again fields (length fs) ((((at + 2) + 2) + 2) + length it) (flat_map (written_member (names_in info.pool)) fs) fl f)
+    (members_again methods (length ms) (((((at + 2) + 2) + 2) + length it) + length ft) (flat_map (written_member (names_in info.pool)) ms) ml m) in
     let all = layout_again info.minor info.major info.pool _ (written_pool info.pool) _ fits.minor fits.major fits.pool b in
     subst (λ (t : List ℕ). layout.spells (record info { at = at; fields = fields; methods = methods; attributes = [] }) 0 t)
     (regroup (u4 0xCAFEBABE) (u2 info.minor) (u2 info.major) (written_pool info.pool) (u2 info.flags) (u2 info.this_class) (u2 info.super_class) (u2 (length info.interfaces)) (flat_map u2 info.interfaces) ft mt (u2 0)) all
@@ -273,6 +312,7 @@ info_again info fits link rule =
       kept = rules_again info (place_of info) f.infos m.infos rule.header f.rules m.rules;
       parts_are = parts_again info (place_of info) f.infos m.infos f.same m.same;
     }
+
 -- what is written of parts that some bytes read as reads as them
 pub reads_back : (text : List ℕ) (parts : Parts) → AreBytes text → Reads text parts → Reads (written parts) parts
 reads_back text parts b r =

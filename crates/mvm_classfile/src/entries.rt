@@ -82,7 +82,11 @@ fn push_item(alloc: Global, bytes: &mut Vec<u8>, item: &Item) -> Result<(), OutO
 
 /// Adds the count of the constant pool, and its entries.
 #[tactic(auto, unfolding(crate::specs::Writing::written_pool))]
-pub(crate) fn push_pool(alloc: Global, bytes: &mut Vec<u8>, pool: &[Item]) -> Result<(), OutOfMemory>
+pub(crate) fn push_pool(
+    alloc: Global,
+    bytes: &mut Vec<u8>,
+    pool: &[Item],
+) -> Result<(), OutOfMemory>
     ensures { OnOk result (bytes.new.items ≡ bytes.old.items ++ written_pool pool.now) }
 {
     push_count(bytes, pool.len() + 1)?;

@@ -60,11 +60,13 @@ fn members_fit(members: &[Member]) -> bool
 pub(crate) fn lists_fit(alloc: Global, parts: &Parts) -> Result<bool, OutOfMemory>
     ensures { IfOk result (λ fits. fits ≡ lists_fit parts.now) }
 {
-    Ok(parts.pool.len() < 65535
-        && pool_fits(alloc, parts.pool.as_slice())?
-        && parts.interfaces.len() < 65536
-        && parts.fields.len() < 65536
-        && parts.methods.len() < 65536
-        && members_fit(parts.fields.as_slice())
-        && members_fit(parts.methods.as_slice()))
+    Ok(
+        parts.pool.len() < 65535
+            && pool_fits(alloc, parts.pool.as_slice())?
+            && parts.interfaces.len() < 65536
+            && parts.fields.len() < 65536
+            && parts.methods.len() < 65536
+            && members_fit(parts.fields.as_slice())
+            && members_fit(parts.methods.as_slice()),
+    )
 }

@@ -11,5 +11,4 @@ pub fn reading_law()
     ensures never_both { (text : List ℕ) (parts : Parts) (fault : ClassFault) → Reads text parts → fault_of text ≡ Some fault → ⊥ }
     // All bytes read as a class or have a fault.
     ensures either { (text : List ℕ) → IsParts text ⊎ HasFault text }
-{
-}
+{}

@@ -53,7 +53,12 @@ fn push_attribute(bytes: &mut Vec<u8>, name: usize, content: &[u8]) -> Result<()
 }
 
 /// Adds the attribute of a value that a field has at first.
-fn push_constant(alloc: Global, bytes: &mut Vec<u8>, names: &AttributeNames, index: u16) -> Result<(), AllocError>
+fn push_constant(
+    alloc: Global,
+    bytes: &mut Vec<u8>,
+    names: &AttributeNames,
+    index: u16,
+) -> Result<(), AllocError>
     ensures { OnOk result (bytes.new.items ≡ bytes.old.items ++ written_attribute names.now.constant (u2 index)) }
 {
     let mut content = Vec::new(alloc);
@@ -62,7 +67,12 @@ fn push_constant(alloc: Global, bytes: &mut Vec<u8>, names: &AttributeNames, ind
 }
 
 /// Adds the attribute of the code of a method.
-fn push_code_attribute(alloc: Global, bytes: &mut Vec<u8>, names: &AttributeNames, code: &Code) -> Result<(), AllocError>
+fn push_code_attribute(
+    alloc: Global,
+    bytes: &mut Vec<u8>,
+    names: &AttributeNames,
+    code: &Code,
+) -> Result<(), AllocError>
     ensures { OnOk result (bytes.new.items ≡ bytes.old.items ++ written_attribute names.now.code (written_code code.now)) }
 {
     let mut content = Vec::new(alloc);
@@ -71,7 +81,12 @@ fn push_code_attribute(alloc: Global, bytes: &mut Vec<u8>, names: &AttributeName
 }
 
 /// Adds the count of the attributes that are kept of a member, and those.
-fn push_attributes(alloc: Global, bytes: &mut Vec<u8>, names: &AttributeNames, member: &Member) -> Result<(), AllocError>
+fn push_attributes(
+    alloc: Global,
+    bytes: &mut Vec<u8>,
+    names: &AttributeNames,
+    member: &Member,
+) -> Result<(), AllocError>
     ensures { OnOk result (bytes.new.items ≡ bytes.old.items ++ written_attributes (attributes_of names.now member.now)) }
 {
     match (member.constant, &member.code) {
@@ -94,7 +109,12 @@ fn push_attributes(alloc: Global, bytes: &mut Vec<u8>, names: &AttributeNames, m
 
 /// Adds a field or a method.
 #[tactic(auto, unfolding(crate::specs::Writing::written_member))]
-fn push_member(alloc: Global, bytes: &mut Vec<u8>, names: &AttributeNames, member: &Member) -> Result<(), AllocError>
+fn push_member(
+    alloc: Global,
+    bytes: &mut Vec<u8>,
+    names: &AttributeNames,
+    member: &Member,
+) -> Result<(), AllocError>
     ensures { OnOk result (bytes.new.items ≡ bytes.old.items ++ written_member names.now member.now) }
 {
     push_u2(bytes, member.flags)?;

@@ -38,7 +38,11 @@ pub(crate) fn read_file(alloc: Global, bytes: &[u8]) -> Result<ClassFile, ClassF
 /// # Errors
 ///
 /// The first fault: of the layout, front to back; else of the lowest entry of the constant pool; else at the lowest place.
-pub fn read_class<L: Ledger>(alloc: Global, bytes: &[u8], steps: &mut Steps<L>) -> Result<ClassFile, ClassFault>
+pub fn read_class<L: Ledger>(
+    alloc: Global,
+    bytes: &[u8],
+    steps: &mut Steps<L>,
+) -> Result<ClassFile, ClassFault>
     requires { length bytes.now < 2 ^ 32 }
     // What each answer says of the bytes.
     ensures says { Says bytes.now result }

@@ -1,6 +1,6 @@
-ghost use Rattle.std.specs.Prelude.{◌≡◌, ◌++◌, flat_map, length, IfOk, OnOk};
+ghost use Rattle.std.specs.Prelude.{◌≡◌, ◌++◌, flat_map, length, IfOk, OnOk, Ok};
 ghost use Rattle.mvm_layout.specs.Answers.{AnswersInMemory};
-ghost use Rattle.mvm_classfile.specs.Reading.{Reads};
+ghost use Rattle.mvm_classfile.specs.Reading.{Reads, IsClassFile};
 ghost use Rattle.mvm_classfile.specs.Writing.{u2, u4, written, rebuilt};
 
 use crate::class_file::ClassFile;
@@ -80,7 +80,10 @@ impl ClassFile {
     /// The first fault of the written form, as reading it would tell it. `Shape(0)` where a list is too long for its count or
     /// the written form has 2^32 bytes or more.
     pub fn from_parts(alloc: Global, parts: Parts) -> Result<ClassFile, ClassFault>
-        ensures { AnswersInMemory result (rebuilt parts) }
+        // What reading the written form answers.
+        ensures exact { AnswersInMemory result (rebuilt parts) }
+        // The parts of a class file make it again, unless memory runs out.
+        ensures again { IsClassFile parts → AnswersInMemory result (Ok parts) }
     {
         rebuild(alloc, &parts)
     }
