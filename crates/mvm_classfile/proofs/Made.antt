@@ -17,11 +17,11 @@ use Rattle.mvm_shape.specs.Rules.{each_after}
 use Rattle.mvm_shape.specs.Members.{field_rule, method_rule, field_part, method_part}
 use Rattle.mvm_shape.specs.Shape.{is_interface, parts_of}
 use Rattle.mvm_classfile.specs.Reading.{AreBytes, IsClassFile}
-use Rattle.mvm_classfile.specs.Writing.{u2, u4, names_in, written_pool, written_member, written_members, written, fits_code, lists_fit, fits, rebuilt}
+use Rattle.mvm_classfile.specs.Writing.{u2, u4, names_in, written_pool, written_member, written_members, written, fits_code, lists_fit, has_few_bytes, is_countable, fits, rebuilt}
 use Rattle.mvm_classfile.proofs.Plain.{left_bytes, right_bytes, counted_lt}
 use Rattle.mvm_classfile.proofs.Items.{pool_plain, PoolShort, pool_short}
 use Rattle.mvm_classfile.proofs.Pieces.{MemberFits, member_fits, counted_each, interfaces_plain, interfaces_lt, at_least_two}
-use Rattle.mvm_classfile.proofs.Rule.{kept}
+use Rattle.mvm_classfile.proofs.Rule.{kept, and_again}
 use Rattle.mvm_classfile.proofs.Shorter.{fields_shorter, methods_short, fields_rows}
 use Rattle.mvm_classfile.proofs.Answered.{reading-complete}
 use Rattle.mvm_classfile.proofs.Whole.{rules_kept, written_again}
@@ -48,6 +48,7 @@ fields_room pool is ms at t b s k =
 record Methods (pool : List Item) (ms : List MemberInfo) (t : List ℕ) : Type 0 where
   room : length (written_list pool (map (method_part pool) ms)) ≤ length t
   rows : list_all (λ (x : Member). fits_code x.code) (map (method_part pool) ms) ≡ true
+  bytes : list_all (λ (x : Member). has_few_bytes x.code) (map (method_part pool) ms) ≡ true
 
 methods_room : (pool : List Item) (is : Bool) (ms : List MemberInfo) (at : ℕ) (t : List ℕ) → AreBytes t → members.spells ms at t → each_after [] (method_rule pool is) ms ≡ kept → Methods pool ms t
 unfolding members
@@ -56,7 +57,7 @@ methods_room pool is ms at t b s k =
     let fits = counted_each member MemberFits member_fits ms at t b s in
     let len : length t ≡ length h.0 + length h.1 = ap length h.4 ∙ length-append h.0 h.1 in
     let one = methods_short pool (names_in pool) is [] s.0.0 ms (at + length h.0) h.1 (subst (λ (z : List MemberInfo). spells_times member s.0.0 z (at + length h.0) h.1) s.2 h.3) fits k in
-    record { room = omega (arith, len, one.room, h.2.0); rows = one.rows }
+    record { room = omega (arith, len, one.room, h.2.0); rows = one.rows; bytes = one.bytes }
 
 -- ---- the whole
 
@@ -66,6 +67,7 @@ record Short (info : ClassInfo) (t : List ℕ) : Type 0 where
   fields : length info.fields < 256 ^ 2
   methods : length info.methods < 256 ^ 2
   rows : list_all (λ (x : Member). fits_code x.code) (map (method_part info.pool) info.methods) ≡ true
+  bytes : list_all (λ (x : Member). has_few_bytes x.code) (map (method_part info.pool) info.methods) ≡ true
   room : 4 + (2 + (2 + (length (written_pool info.pool) + (2 + (2 + (2 + (length (u2 (length info.interfaces) ++ flat_map u2 info.interfaces) + (length (written_list info.pool (map (field_part info.pool) info.fields)) + (length (written_list info.pool (map (method_part info.pool) info.methods)) + 2)))))))))
       ≤ length t
 
@@ -74,6 +76,7 @@ record BodyShort (pool : List Item) (x : Body) (t : List ℕ) : Type 0 where
   fields : length x.1.1.1.1.0 < 256 ^ 2
   methods : length x.1.1.1.1.1.0 < 256 ^ 2
   rows : list_all (λ (y : Member). fits_code y.code) (map (method_part pool) x.1.1.1.1.1.0) ≡ true
+  bytes : list_all (λ (y : Member). has_few_bytes y.code) (map (method_part pool) x.1.1.1.1.1.0) ≡ true
   room : 2 + (2 + (2 + (length (u2 (length x.1.1.1.0) ++ flat_map u2 x.1.1.1.0) + (length (written_list pool (map (field_part pool) x.1.1.1.1.0)) + (length (written_list pool (map (method_part pool) x.1.1.1.1.1.0)) + 2)))))
       ≤ length t
 
@@ -105,6 +108,7 @@ body_short pool is x at t b h fk mk =
       fields = members_count x.1.1.1.1.0 _ l.0 c4 l.2;
       methods = members_count x.1.1.1.1.1.0 _ m.0 c5 m.2;
       rows = ms.rows;
+      bytes = ms.bytes;
       room = omega (arith, pieces h.0 h.1 t h.4, h.2.1.0, pieces i.0 i.1 h.1 i.4, i.2.0, pieces j.0 j.1 i.1 j.4, j.2.0, pieces k.0 k.1 j.1 k.4, is_text, pieces l.0 l.1 k.1 l.4, f, pieces m.0 m.1 l.1 m.4, ms.room, n);
     }
 
@@ -139,6 +143,7 @@ short info at t b s fk mk =
       fields = f.fields;
       methods = f.methods;
       rows = f.rows;
+      bytes = f.bytes;
       room = omega (arith, pieces h.0 h.1 t h.4, magic_length x.0 at h.0 h.2, pieces i.0 i.1 h.1 i.4, i.2.0, pieces j.0 j.1 i.1 j.4, major_length x.1.1.0 _ j.0 j.2, pieces k.0 k.1 j.1 k.4, p, f.room);
     } in
     subst (λ (z : ClassInfo). Short z t) s.2 made
@@ -158,19 +163,35 @@ written_length info =
 below : (n : ℕ) → n < 256 ^ 2 → nat_lt n (2 ^ 16) ≡ true
 below n h = lt-ltb _ _ (omega arith)
 
-info_fits : (info : ClassInfo) (t : List ℕ) → length t < 2 ^ 32 → Short info t → fits (parts_of info) ≡ true
-unfolding fits lists_fit parts_of
-info_fits info t len s =
-    let w : length (written (parts_of info)) < 2 ^ 32 = omega (arith, written_length info, s.room) in
+lists_short : (info : ClassInfo) (t : List ℕ) → Short info t → lists_fit (parts_of info) ≡ true
+unfolding lists_fit parts_of
+lists_short info t s =
     let fl : length (map (field_part info.pool) info.fields) < 256 ^ 2 = rw length-map s.fields in
     let ml : length (map (method_part info.pool) info.methods) < 256 ^ 2 = rw length-map s.methods in
-    rw (below _ s.pool.count, s.pool.texts, below _ s.interfaces, below _ fl, below _ ml, fields_rows info.pool info.fields, s.rows, lt-ltb _ _ w) refl
+    rw (below _ s.pool.count, s.pool.texts, below _ s.interfaces, below _ fl, below _ ml, fields_rows info.pool info.fields, s.rows) refl
 
-parts_fit : (parts : Parts) → IsClassFile parts → fits parts ≡ true
-parts_fit parts is =
+info_fits : (info : ClassInfo) (t : List ℕ) → length t < 2 ^ 32 → Short info t → fits (parts_of info) ≡ true
+unfolding fits
+info_fits info t len s =
+    let w : length (written (parts_of info)) < 2 ^ 32 = omega (arith, written_length info, s.room) in
+    rw (lists_short info t s, lt-ltb _ _ w) refl
+
+info_countable : (info : ClassInfo) (t : List ℕ) → Short info t → is_countable (parts_of info) ≡ true
+unfolding is_countable parts_of
+info_countable info t s = and_again _ _ (lists_short info t s) s.bytes
+
+reads_short : (parts : Parts) (is : IsClassFile parts) → Short is.reads.info is.text
+reads_short parts is =
     let r = is.reads in
     let k = rules_kept r.info r.kept in
-    subst (λ (p : Parts). fits p ≡ true) (sym r.parts_are) (info_fits r.info is.text is.short (short r.info 0 is.text is.bytes r.spelled k.fields k.methods))
+    short r.info 0 is.text is.bytes r.spelled k.fields k.methods
+
+-- the lists of a class file are short enough for their counts, and so is the code of its methods
+pub countable : (parts : Parts) → IsClassFile parts → is_countable parts ≡ true
+countable parts is = subst (λ (p : Parts). is_countable p ≡ true) (sym is.reads.parts_are) (info_countable is.reads.info is.text (reads_short parts is))
+
+parts_fit : (parts : Parts) → IsClassFile parts → fits parts ≡ true
+parts_fit parts is = subst (λ (p : Parts). fits p ≡ true) (sym is.reads.parts_are) (info_fits is.reads.info is.text is.short (reads_short parts is))
 
 rebuilt_is : (parts : Parts) → IsClassFile parts → rebuilt parts ≡ Ok parts
 unfolding rebuilt

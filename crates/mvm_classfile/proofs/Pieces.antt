@@ -1,8 +1,10 @@
 -- Attributes, members and code by their pieces: what fits where it is spelled, and what spells what is built anew.
-use Rattle.std.proofs.Common.{◌≡◌, ℕ, zero, suc, ◌+◌, ◌<◌, ◌≤◌, ◌^◌, List, [], ◌∷◌, ◌++◌, length, refl, sym, ap, subst, ◌∙◌, length-append, append_assoc, arith}
+use Rattle.std.proofs.Common.{◌≡◌, ℕ, zero, suc, ◌+◌, ◌<◌, ◌≤◌, ◌^◌, Bool, true, false, ◌&&◌, Some, List, [], ◌∷◌, ◌++◌, length, refl, sym, ap, subst, ◌∙◌, length-append, append_assoc, arith}
+use Rattle.std.specs.Prelude.{nat_le}
 use Rattle.std.specs.List.{flat_map}
+use Rattle.std.proofs.lemmas.Bool.{leb-true}
 use Rattle.mvm_layout.specs.Infos.{AttributeParts}
-use Rattle.mvm_layout.specs.Format.{Format, bytes, number, followed, spells_times, counted}
+use Rattle.mvm_layout.specs.Format.{Format, bytes, number, followed, if_passing, spells_times, counted}
 use Rattle.mvm_layout.specs.Entries.{second}
 use Rattle.mvm_layout.specs.Layout.{content, attribute_of, attribute, attributes, member_of, member, interfaces, row_of, row, rows, instructions, code_of, code}
 use Rattle.mvm_layout.specs.declared.parts.Code.{Code}
@@ -148,6 +150,24 @@ pub record CodeFits (c : Code) (old : List ℕ) : Type 0 where
   pub spelled : (at : ℕ) → code.spells (record { code = c; attributes = [] }) at (written_code c)
   pub short : length (written_code c) ≤ length old
   pub rows : length c.rows < 256 ^ 2
+  pub bytes : length c.bytes ≤ 65535
+
+second_holds : (a b : Bool) → (a && b) ≡ true → b ≡ true
+second_holds true b h = h
+second_holds false b h = absurd cc
+
+few_passed : (test : Bool) (old new : List ℕ) → (test && nat_le (length old) 65535) ≡ true → if_passing true old ≡ Some new → length new ≤ 65535
+few_passed test old new h e =
+    let same : old ≡ new = cc in
+    subst (λ (z : List ℕ). length z ≤ 65535) same (leb-true _ _ (second_holds test _ h))
+
+few_bytes_at : (test passes : Bool) (old new : List ℕ) → (test && nat_le (length old) 65535) ≡ passes → if_passing passes old ≡ Some new → length new ≤ 65535
+few_bytes_at test true old new h e = few_passed test old new h e
+few_bytes_at test false old new h e = absurd cc
+
+few_bytes : (new : List ℕ) (at : ℕ) (text : List ℕ) → instructions.spells new at text → length new ≤ 65535
+unfolding instructions
+few_bytes new at text s = few_bytes_at (nat_le 1 (length s.0)) _ s.0 new refl s.2
 
 no_attributes : (at : ℕ) → attributes.spells [] at (u2 0)
 unfolding attributes
@@ -217,4 +237,4 @@ code_fits info at text b s =
     let whole : length (written_code (code_of x).code) ≡ 2 + (2 + (length (u4 (length x.1.1.0) ++ x.1.1.0) + (length (u2 (length x.1.1.1.0) ++ flat_map written_row x.1.1.1.0) + 2))) = sym (ap length grouped) ∙ lengths (u2 x.0) (u2 x.1.0) (u4 (length x.1.1.0) ++ x.1.1.0) (u2 (length x.1.1.1.0) ++ flat_map written_row x.1.1.1.0) (u2 0) in
     let short : length (written_code (code_of x).code) ≤ length text = no_longer (length h.0) (length i.0) _ _ _ (length text) (length h.1) (length i.1) (length j.1) (length k.1)
     (ap length h.4 ∙ length-append h.0 h.1) (ap length i.4 ∙ length-append i.0 i.1) (ap length j.4 ∙ length-append j.0 j.1 ∙ ap (λ (z : ℕ). z + length j.1) e3) (ap length k.4 ∙ length-append k.0 k.1 ∙ ap (λ (z : ℕ). z + length k.1) e4) e1 e2 m whole in
-    subst (λ (z : CodeInfo). CodeFits z.code text) s.2 (record { spelled = spelled; short = short; rows = rows_lt x.1.1.1.0 (((at + length h.0) + length i.0) + length j.0) k.0 (left_bytes j.1 k.0 k.1 k.4 b3) k.2 })
+    subst (λ (z : CodeInfo). CodeFits z.code text) s.2 (record { spelled = spelled; short = short; rows = rows_lt x.1.1.1.0 (((at + length h.0) + length i.0) + length j.0) k.0 (left_bytes j.1 k.0 k.1 k.4 b3) k.2; bytes = few_bytes x.1.1.0 _ j.0 j.2 })

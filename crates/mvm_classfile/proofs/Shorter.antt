@@ -3,7 +3,7 @@ use Rattle.std.proofs.Common.{◌≡◌, ℕ, zero, suc, ◌+◌, ◌≤◌, Boo
 use Rattle.std.specs.Prelude.{map, codes}
 use Rattle.std.specs.List.{flat_map, filter, list_all}
 use Rattle.std.specs.Option.{option_map}
-use Rattle.std.proofs.lemmas.Bool.{lt-ltb}
+use Rattle.std.proofs.lemmas.Bool.{lt-ltb, le-leb}
 use Rattle.mvm_layout.specs.Infos.{AttributeParts}
 use Rattle.mvm_layout.specs.Format.{spells_times}
 use Rattle.mvm_layout.specs.Layout.{attribute_of, attribute, attributes, member_of, member, code_in}
@@ -15,7 +15,7 @@ use Rattle.mvm_layout.specs.declared.info.CodeInfo.{CodeInfo}
 use Rattle.mvm_layout.proofs.Layouts.{code_in-sound}
 use Rattle.mvm_shape.specs.Rules.{each_after}
 use Rattle.mvm_shape.specs.Members.{is_static, is_named, field_rule, method_rule, first, index_in, field_part, code_of_info, code_of, method_part}
-use Rattle.mvm_classfile.specs.Writing.{Names, written_code, written_member, fits_code}
+use Rattle.mvm_classfile.specs.Writing.{Names, written_code, written_member, fits_code, has_few_bytes}
 use Rattle.mvm_classfile.proofs.Pieces.{Each, MemberFits, CodeFits, code_fits, at_least_two}
 use Rattle.mvm_classfile.proofs.Rule.{kept, both}
 use Rattle.mvm_classfile.proofs.Fields.{constant_length}
@@ -116,15 +116,16 @@ field_shorter pool names is_interface before m at t s fits k =
 record CodeShort (c : Option Code) (t : List ℕ) : Type 0 where
   room : 8 + code_room c ≤ length t
   rows : fits_code c ≡ true
+  bytes : has_few_bytes c ≡ true
 
 code_short : (pool : List Item) (m : MemberInfo) (found : List AttributeParts) (t : List ℕ) → MemberText m t → filter (is_named pool (codes "Code")) m.attributes ≡ found
     → ((a : AttributeParts) (more : List AttributeParts) → filter (is_named pool (codes "Code")) m.attributes ≡ a ∷ more → (info : CodeInfo) × (code_in a ≡ Some info) × CodeFits info.code a.content) → CodeShort (code_of (first found)) t
 unfolding code_room
-code_short pool m [] t x f has = let l = at_least_two m.attributes x.at x.rest x.spelled in record { room = omega (arith, l, x.longer); rows = refl }
+code_short pool m [] t x f has = let l = at_least_two m.attributes x.at x.rest x.spelled in record { room = omega (arith, l, x.longer); rows = refl; bytes = refl }
 code_short pool m (a ∷ more) t x f has =
     let c = has a more f in
     let l = attributes_holding (is_named pool (codes "Code")) a more m.attributes x.at x.rest x.spelled f in
-    let made : CodeShort (code_of_info (Some c.0)) t = record { room = omega (arith, l, x.longer, c.2.short); rows = lt-ltb _ _ (omega (arith, c.2.rows)) } in
+    let made : CodeShort (code_of_info (Some c.0)) t = record { room = omega (arith, l, x.longer, c.2.short); rows = lt-ltb _ _ (omega (arith, c.2.rows)); bytes = le-leb _ _ c.2.bytes } in
     subst (λ (o : Option CodeInfo). CodeShort (code_of_info o) t) (sym c.1) made
 
 has_code : (pool : List Item) (is_interface : Bool) (before : List MemberInfo) (m : MemberInfo) → MemberFits m → method_rule pool is_interface before m ≡ kept
@@ -159,10 +160,11 @@ fields_shorter pool names is_interface before (suc n) (m ∷ ms) at t s fits k =
 pub record MethodsShort (pool : List Item) (names : Names) (ms : List MemberInfo) (t : List ℕ) : Type 0 where
   pub room : length (flat_map (written_member names) (map (method_part pool) ms)) ≤ length t
   pub rows : list_all (λ (x : Member). fits_code x.code) (map (method_part pool) ms) ≡ true
+  pub bytes : list_all (λ (x : Member). has_few_bytes x.code) (map (method_part pool) ms) ≡ true
 
 pub methods_short : (pool : List Item) (names : Names) (is_interface : Bool) (before : List MemberInfo) (n : ℕ) (ms : List MemberInfo) (at : ℕ) (t : List ℕ) → spells_times member n ms at t → Each MemberFits ms → each_after before (method_rule pool is_interface) ms ≡ kept
     → MethodsShort pool names ms t
-methods_short pool names is_interface before n [] at t s fits k = record { room = omega arith; rows = refl }
+methods_short pool names is_interface before n [] at t s fits k = record { room = omega arith; rows = refl; bytes = refl }
 methods_short pool names is_interface before zero (m ∷ ms) at t s fits k = absurd (let e = s.0 in cc)
 methods_short pool names is_interface before (suc n) (m ∷ ms) at t s fits k =
     let r = both (method_rule pool is_interface before m) (each_after (before ++ m ∷ []) (method_rule pool is_interface) ms) tt k in
@@ -171,7 +173,7 @@ methods_short pool names is_interface before (suc n) (m ∷ ms) at t s fits k =
     let more = methods_short pool names is_interface (before ++ m ∷ []) n ms (at + length s.0) s.1 s.3 fits.1 r.1 in
     let len : length t ≡ length s.0 + length s.1 = ap length s.4 ∙ length-append s.0 s.1 in
     let all = length-append (written_member names (method_part pool m)) (flat_map (written_member names) (map (method_part pool) ms)) in
-    record { room = omega (arith, shorter, more.room, len, all); rows = rw (one.rows, more.rows) refl }
+    record { room = omega (arith, shorter, more.room, len, all); rows = rw (one.rows, more.rows) refl; bytes = rw (one.bytes, more.bytes) refl }
 
 pub fields_rows : (pool : List Item) (ms : List MemberInfo) → list_all (λ (x : Member). fits_code x.code) (map (field_part pool) ms) ≡ true
 unfolding field_part

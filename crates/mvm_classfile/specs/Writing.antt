@@ -1,5 +1,5 @@
 -- How a class file is written (JVM Specification, chapter 4): without the attributes that are passed over.
-use Rattle.std.specs.Prelude.{ℕ, ◌+◌, ◌^◌, List, [], ◌∷◌, ◌++◌, length, flat_map, Bool, true, false, ◌&&◌, nat_lt, if◌then◌else◌, Option, Some, None, Result, Err, codes}
+use Rattle.std.specs.Prelude.{ℕ, ◌+◌, ◌^◌, List, [], ◌∷◌, ◌++◌, length, flat_map, Bool, true, false, ◌&&◌, nat_lt, nat_le, if◌then◌else◌, Option, Some, None, Result, Err, codes}
 use Rattle.std.specs.Int.{w32, w64, cast_unsigned}
 use Rattle.std.specs.List.{list_all}
 use Rattle.std.specs.Str.{bytes_eq}
@@ -137,7 +137,15 @@ lists_fit parts =
     && nat_lt (length parts.interfaces) (2 ^ 16) && nat_lt (length parts.fields) (2 ^ 16) && nat_lt (length parts.methods) (2 ^ 16)
     && list_all (λ member. fits_code member.code) parts.fields && list_all (λ member. fits_code member.code) parts.methods
 
--- the same, and the written form has fewer than 2^32 bytes
+abbrev pub has_few_bytes : Option Code → Bool
+has_few_bytes (Some code) = nat_le (length code.bytes) 65535
+has_few_bytes None = true
+
+-- each list is short enough for its count, and the code of a method has at most 65,535 bytes (4.7.3)
+unfoldable pub is_countable : Parts → Bool
+is_countable parts = lists_fit parts && list_all (λ member. has_few_bytes member.code) parts.methods
+
+-- each list is short enough for its count, and the written form has fewer than 2^32 bytes
 unfoldable pub fits : Parts → Bool
 fits parts = lists_fit parts && nat_lt (length (written parts)) (2 ^ 32)
 

@@ -1,5 +1,6 @@
-ghost use Rattle.std.specs.Prelude.{◌≡◌};
+ghost use Rattle.std.specs.Prelude.{◌≡◌, IsTrue};
 ghost use Rattle.mvm_classfile.specs.Reading.{IsClassFile};
+ghost use Rattle.mvm_classfile.specs.Writing.{is_countable};
 
 use mvm_layout::Parts;
 use std::marker::Model;
@@ -33,7 +34,9 @@ impl ClassFile {
 
     /// What the class file says, but for the attributes that are passed over.
     pub fn parts(&self) -> &Parts
-        ensures { result.now ≡ self.now }
+        ensures value { result.now ≡ self.now }
+        // Each list is short enough for its count, and the code of a method has at most 65,535 bytes.
+        ensures short { IsTrue (is_countable self.now) }
     {
         &self.parts
     }
