@@ -1,2 +1,3 @@
 pub mod Slots
+pub mod Countable
 pub mod Steps

@@ -1,5 +1,5 @@
 -- The static constraints on the code of a class file (JVM Specification 4.9.1, and 4.9.2 but for the types of values).
-use Rattle.std.specs.Prelude.{ℕ, List, length, Bool, nat_le, nat_lt, ◌&&◌, ◌||◌, ◌==◌, if◌then◌else◌, Option, Some, None, Result, Ok}
+use Rattle.std.specs.Prelude.{ℕ, List, length, Bool, nat_lt, ◌&&◌, ◌||◌, ◌==◌, Option, Some, None, Result, Ok}
 use Rattle.mvm_layout.specs.declared.parts.Item.{Item}
 use Rattle.mvm_layout.specs.declared.parts.Row.{Row}
 use Rattle.mvm_layout.specs.declared.parts.Code.{Code}
@@ -40,29 +40,24 @@ stands_rule method code pc = told method pc (stands code pc)
 unfoldable pub keeps_rule : List Item → ℕ → Bool → Code → ℕ → Result (Unit {0}) CheckFault
 keeps_rule pool method room code pc = told method pc (keeps pool room code pc)
 
--- the code is instructions, one behind the other; each keeps the rules; and so do the rows of the exception table
+-- The code is instructions, one behind the other; each keeps the rules; and so do the rows of the exception table. The code of a
+-- class file is never empty; one that is empty has no instruction, and so no fault of one.
 unfoldable pub code_rule : List Item → ℕ → Bool → Code → Result (Unit {0}) CheckFault
 code_rule pool method room code =
     each (stands_rule method code.bytes) (starts_of code.bytes)
     and_then each (keeps_rule pool method room code) (starts_of code.bytes)
     and_then each_from 0 (row_rule pool method code) code.rows
 
--- The lists of code are no longer than their counts can say (4.7.3). The code of a class file always is so, and never empty; one
--- that is empty has no instruction, and so no fault of one.
-abbrev pub is_countable : Code → Bool
-is_countable code = nat_le (length code.bytes) 65535 && nat_le (length code.rows) 65535
-
 abbrev pub code_rule_if : List Item → ℕ → Member → Option Code → Result (Unit {0}) CheckFault
 code_rule_if pool number method None = Ok tt
 code_rule_if pool number method (Some code) =
-    if is_countable code then code_rule pool number (has_room method.flags code.max_locals (parameter_slots pool method.desc)) code else Ok tt
+    code_rule pool number (has_room method.flags code.max_locals (parameter_slots pool method.desc)) code
 
 unfoldable pub method_rule : List Item → ℕ → Member → Result (Unit {0}) CheckFault
 method_rule pool number method = code_rule_if pool number method method.code
 
 -- ---- the whole
 
--- The first fault of the methods, in their order. They are no more than their count can say (4.1): those of a class file always
--- are so.
+-- the first fault of the methods, in their order
 unfoldable pub check_of : Parts → Result (Unit {0}) CheckFault
-check_of class = if nat_le (length class.methods) 65535 then each_from 0 (method_rule class.pool) class.methods else Ok tt
+check_of class = each_from 0 (method_rule class.pool) class.methods

@@ -1,5 +1,5 @@
 -- Entries of the constant pool as operands of instructions, and what else stands with them (JVM Specification 4.9.1).
-use Rattle.std.specs.Prelude.{ℕ, zero, suc, ◌+◌, List, [], ◌∷◌, length, Bool, true, false, not, nat_le, ◌&&◌, ◌||◌, ◌==◌, if◌then◌else◌, Option, Some, None, Result, Ok, Err, codes}
+use Rattle.std.specs.Prelude.{ℕ, zero, suc, ◌+◌, List, [], ◌∷◌, Bool, true, false, not, ◌&&◌, ◌||◌, ◌==◌, if◌then◌else◌, Option, Some, None, Result, Ok, Err, codes}
 use Rattle.std.specs.Option.{option_and_then}
 use Rattle.std.specs.Str.{bytes_eq}
 use Rattle.mvm_base.specs.Descriptor.{method_of, slots}
@@ -62,12 +62,9 @@ abbrev pub slots_in : Result MethodShape DescFault → Option ℕ
 slots_in (Ok method) = Some (slots method.params)
 slots_in (Err fault) = None
 
--- The slots that the parameters of a method descriptor take, a long two (4.3.3). A text of a class file has at most 65,535 units.
-abbrev pub slots_of_text : List ℕ → Option ℕ
-slots_of_text text = if nat_le (length text) 65535 then slots_in (method_of text) else None
-
+-- the slots that the parameters of a method descriptor take, a long two (4.3.3)
 abbrev pub slots_of_item : Item → Option ℕ
-slots_of_item (Utf8 text) = slots_of_text text
+slots_of_item (Utf8 text) = slots_in (method_of text)
 slots_of_item _ = None
 
 -- the same, by the index of the descriptor

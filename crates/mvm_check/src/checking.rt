@@ -1,4 +1,6 @@
-ghost use Rattle.std.specs.Prelude.{◌≡◌, ◌≤◌, length};
+ghost use Rattle.std.specs.Prelude.{◌≡◌, ◌≤◌, length, IsTrue};
+ghost use Rattle.std.specs.List.{AllPass};
+ghost use Rattle.mvm_classfile.specs.Writing.{fits_code, has_few_bytes, is_countable};
 ghost use Rattle.mvm_shape.specs.Pool.{entry, is_class};
 ghost use Rattle.mvm_check.specs.Rules.{each, each_from, told, Answers};
 ghost use Rattle.mvm_check.specs.Starts.{starts_of};
@@ -154,15 +156,14 @@ fn method_rule(
     number: u16,
     method: &Member,
 ) -> Result<(), CheckFault>
+    requires rows { IsTrue (fits_code method.now.code) }
+    requires bytes { IsTrue (has_few_bytes method.now.code) }
     ensures { Answers result (method_rule constants.now number method.now) }
 {
     let code = match &method.code {
         Some(code) => code,
         None => return Ok(()),
     };
-    if code.bytes.len() > 65535 || code.rows.len() > 65535 {
-        return Ok(());
-    }
     let slots = constants.parameter_slots(method.desc);
     let room = has_room(method.flags, code.max_locals, slots);
     code_rule(alloc, constants, number, room, code)
@@ -173,7 +174,9 @@ fn all_methods(
     constants: &Constants,
     methods: &List<Member>,
 ) -> Result<(), CheckFault>
-    requires { length methods.now ≤ 65535 }
+    requires few { length methods.now ≤ 65535 }
+    requires rows { AllPass (λ member. fits_code member.code) methods.now }
+    requires bytes { AllPass (λ member. has_few_bytes member.code) methods.now }
     ensures { Answers result (each_from 0 (method_rule constants.now) methods.now) }
 {
     let members = methods.as_slice();
@@ -183,14 +186,12 @@ fn all_methods(
     Ok(())
 }
 
-/// The first fault of what a class file says.
+/// The first fault of what a class file says, whose lists are short enough for their counts.
 #[tactic(auto, unfolding(crate::specs::Check::check_of))]
-pub(crate) fn check_parts(alloc: Global, parts: &Parts) -> Result<(), CheckFault>
+fn check_parts(alloc: Global, parts: &Parts) -> Result<(), CheckFault>
+    requires { IsTrue (is_countable parts.now) }
     ensures { Answers result (check_of parts.now) }
 {
-    if parts.methods.len() > 65535 {
-        return Ok(());
-    }
     let constants = Constants::of(alloc, &parts.pool)?;
     all_methods(alloc, &constants, &parts.methods)
 }

@@ -1,5 +1,7 @@
-ghost use Rattle.std.specs.Prelude.{◌≡◌, map, slice_get, IfOk};
+ghost use Rattle.std.specs.Prelude.{◌≡◌, map, slice_get, IfOk, IsTrue};
+ghost use Rattle.std.specs.List.{AllPass};
 ghost use Rattle.std.specs.Option.{option_flatten};
+ghost use Rattle.mvm_classfile.specs.Writing.{fits_item};
 ghost use Rattle.mvm_check.specs.Operands.{parameter_slots, slots_of_item};
 
 use mvm_base::{DescFault, List, OutOfMemory, parse_method};
@@ -29,15 +31,13 @@ impl<'a> Model for Constants<'a> {
 
 /// The slots of the parameters of the method descriptor that an entry is.
 fn slots_of_item(alloc: Global, item: &Item) -> Result<Option<u64>, OutOfMemory>
+    requires { IsTrue (fits_item item.now) }
     ensures { IfOk result (λ slots. slots ≡ slots_of_item item.now) }
 {
     let text = match item {
         Item::Utf8(text) => text,
         _ => return Ok(None),
     };
-    if text.units().len() > 65535 {
-        return Ok(None);
-    }
     match parse_method(alloc, text) {
         Ok(method) => Ok(Some(method.slots())),
         Err(DescFault::OutOfMemory) => Err(OutOfMemory),
@@ -46,6 +46,7 @@ fn slots_of_item(alloc: Global, item: &Item) -> Result<Option<u64>, OutOfMemory>
 }
 
 fn all_slots(alloc: Global, pool: &List<Item>) -> Result<List<Option<u64>>, OutOfMemory>
+    requires { AllPass fits_item pool.now }
     ensures { IfOk result (λ slots. slots ≡ map slots_of_item pool.now) }
 {
     let items = pool.as_slice();
@@ -69,6 +70,7 @@ fn slots_at(slots: &[Option<u64>], at: usize) -> Option<u64>
 impl<'a> Constants<'a> {
     /// The constants of a pool. It takes time and memory in proportion to it.
     pub(crate) fn of(alloc: Global, pool: &'a List<Item>) -> Result<Constants<'a>, OutOfMemory>
+        requires { AllPass fits_item pool.now }
         ensures { IfOk result (λ constants. constants ≡ pool.now) }
     {
         let slots = all_slots(alloc, pool)?;

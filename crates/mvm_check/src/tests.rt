@@ -1,6 +1,6 @@
 use super::*;
-use crate::checking::check_parts;
 use mvm_base::{List, Name};
+use mvm_classfile::ClassFile;
 use mvm_layout::{Code, Item, Member, Parts};
 use std::alloc::{AllocError, Global};
 use std::test::Fail;
@@ -33,7 +33,7 @@ fn pool(alloc: Global) -> Result<List<Item>, AllocError> {
     Ok(pool)
 }
 
-/// What is answered for the class of `main` with this code.
+/// What is answered for the class of `main` with this code. It is a class file, unless memory runs out.
 fn answer(alloc: Global, max_locals: u16, bytes: &[u8]) -> Result<(), CheckFault> {
     let code = Code {
         max_stack: 2,
@@ -49,20 +49,21 @@ fn answer(alloc: Global, max_locals: u16, bytes: &[u8]) -> Result<(), CheckFault
         constant: None,
         code: Some(code),
     })?;
-    check_parts(
-        alloc,
-        &Parts {
-            minor: 0,
-            major: 52,
-            pool: pool(alloc)?,
-            flags: 0x21,
-            this_class: 2,
-            super_class: 4,
-            interfaces: List::new(alloc),
-            fields: List::new(alloc),
-            methods,
-        },
-    )
+    let parts = Parts {
+        minor: 0,
+        major: 52,
+        pool: pool(alloc)?,
+        flags: 0x21,
+        this_class: 2,
+        super_class: 4,
+        interfaces: List::new(alloc),
+        fields: List::new(alloc),
+        methods,
+    };
+    match ClassFile::from_parts(alloc, parts) {
+        Ok(class) => check(alloc, &class),
+        Err(_) => Err(CheckFault::OutOfMemory),
+    }
 }
 
 fn bad(at: u32, kind: CheckKind) -> Result<(), CheckFault> {
