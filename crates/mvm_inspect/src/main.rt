@@ -5,6 +5,8 @@
 //! wrong, 1 where something is, 2 where the words are no such number or the input can't be read.
 #![tactic(auto)]
 
+ghost use Rattle.std.specs.Prelude.{◌<◌, ◌^◌, length};
+
 mod inspect;
 #[cfg(test)]
 mod rows;
@@ -44,7 +46,9 @@ fn times_of(rt: &HostRuntime) -> io::Result<Option<u32>> {
     }
 }
 
-fn tell(rt: &HostRuntime, bytes: &List<u8>, times: u32) -> ExitCode {
+fn tell(rt: &HostRuntime, bytes: &List<u8>, times: u32) -> ExitCode
+    requires { length bytes.now < 2 ^ 32 }
+{
     let mut finding = Finding::Sound;
     for i in 0..times {
         finding = inspect(rt.alloc(), bytes.as_slice());

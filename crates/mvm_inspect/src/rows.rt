@@ -39,26 +39,95 @@ const CUTS: [(usize, u32); 11] = [
 /// Places, the bytes that are put there, how many of them, and what is found.
 const CHANGES: [(usize, [u8; 4], usize, Finding); 22] = [
     (3, [0xbf, 0, 0, 0], 1, Finding::Class(ClassFault::Magic)),
-    (7, [0x35, 0, 0, 0], 1, Finding::Class(ClassFault::Version(53))),
+    (
+        7,
+        [0x35, 0, 0, 0],
+        1,
+        Finding::Class(ClassFault::Version(53)),
+    ),
     (8, [0, 0, 0, 0], 2, Finding::Class(ClassFault::Pool(0))),
     (13, [0x80, 0, 0, 0], 1, Finding::Class(ClassFault::Pool(1))),
     (17, [2, 0, 0, 0], 1, Finding::Class(ClassFault::Pool(2))),
     (92, [0, 0x0d, 0, 0], 2, Finding::Class(ClassFault::Pool(9))),
-    (92, [0xff, 0xff, 0, 0], 2, Finding::Class(ClassFault::Pool(9))),
+    (
+        92,
+        [0xff, 0xff, 0, 0],
+        2,
+        Finding::Class(ClassFault::Pool(9)),
+    ),
     (123, [0, 5, 0, 0], 2, Finding::Class(ClassFault::Shape(123))),
     (125, [0, 0, 0, 0], 2, Finding::Class(ClassFault::Shape(125))),
     (133, [1, 9, 0, 0], 2, Finding::Class(ClassFault::Shape(133))),
     (135, [0, 6, 0, 0], 2, Finding::Class(ClassFault::Shape(135))),
     (137, [0, 5, 0, 0], 2, Finding::Class(ClassFault::Shape(137))),
-    (143, [0xff, 0xff, 0xff, 0xff], 4, Finding::Class(ClassFault::Truncated(147))),
+    (
+        143,
+        [0xff, 0xff, 0xff, 0xff],
+        4,
+        Finding::Class(ClassFault::Truncated(147)),
+    ),
     (151, [0, 0, 0, 0], 4, Finding::Class(ClassFault::Shape(141))),
-    (149, [0, 0, 0, 0], 2, Finding::Code(CheckFault::Bad { method: 0, at: 0, kind: CheckKind::BadLocal })),
-    (155, [0xba, 0, 0, 0], 1, Finding::Code(CheckFault::Bad { method: 0, at: 0, kind: CheckKind::Unsupported })),
-    (155, [0xcb, 0, 0, 0], 1, Finding::Code(CheckFault::Bad { method: 0, at: 0, kind: CheckKind::BadOpcode })),
-    (165, [0, 0x0c, 0, 0], 2, Finding::Code(CheckFault::Bad { method: 0, at: 9, kind: CheckKind::BadIndex })),
-    (173, [0, 0, 0, 0], 1, Finding::Code(CheckFault::Bad { method: 0, at: 18, kind: CheckKind::OffEnd })),
+    (
+        149,
+        [0, 0, 0, 0],
+        2,
+        Finding::Code(CheckFault::Bad {
+            method: 0,
+            at: 0,
+            kind: CheckKind::BadLocal,
+        }),
+    ),
+    (
+        155,
+        [0xba, 0, 0, 0],
+        1,
+        Finding::Code(CheckFault::Bad {
+            method: 0,
+            at: 0,
+            kind: CheckKind::Unsupported,
+        }),
+    ),
+    (
+        155,
+        [0xcb, 0, 0, 0],
+        1,
+        Finding::Code(CheckFault::Bad {
+            method: 0,
+            at: 0,
+            kind: CheckKind::BadOpcode,
+        }),
+    ),
+    (
+        165,
+        [0, 0x0c, 0, 0],
+        2,
+        Finding::Code(CheckFault::Bad {
+            method: 0,
+            at: 9,
+            kind: CheckKind::BadIndex,
+        }),
+    ),
+    (
+        173,
+        [0, 0, 0, 0],
+        1,
+        Finding::Code(CheckFault::Bad {
+            method: 0,
+            at: 18,
+            kind: CheckKind::OffEnd,
+        }),
+    ),
     (172, [0xf4, 0, 0, 0], 1, Finding::Sound),
-    (172, [0xf5, 0, 0, 0], 1, Finding::Code(CheckFault::Bad { method: 0, at: 15, kind: CheckKind::BadTarget })),
+    (
+        172,
+        [0xf5, 0, 0, 0],
+        1,
+        Finding::Code(CheckFault::Bad {
+            method: 0,
+            at: 15,
+            kind: CheckKind::BadTarget,
+        }),
+    ),
     (0, [0xca, 0xfe, 0xba, 0xbe], 4, Finding::Sound),
 ];
 
@@ -79,7 +148,11 @@ fn cut_files_are_truncated(rt: HostRuntime) -> Result<(), Fail> {
     for (length, place) in CUTS {
         assert!(rt; length <= MAIN.len());
         let expected = Finding::Class(ClassFault::Truncated(place));
-        assert_eq!(rt; inspect(rt.alloc(), &MAIN[..length]), expected, "cut to {length}");
+        assert_eq!(rt;
+            inspect(rt.alloc(), &MAIN[..length]),
+            expected,
+            "cut to {length}"
+        );
     }
     Ok(())
 }
@@ -88,7 +161,10 @@ fn cut_files_are_truncated(rt: HostRuntime) -> Result<(), Fail> {
 fn every_cut_is_truncated(rt: HostRuntime) -> Result<(), Fail> {
     for length in 0..MAIN.len() {
         let finding = inspect(rt.alloc(), &MAIN[..length]);
-        assert!(rt; matches!(finding, Finding::Class(ClassFault::Truncated(_))), "cut to {length}");
+        assert!(rt;
+            matches!(finding, Finding::Class(ClassFault::Truncated(_))),
+            "cut to {length}"
+        );
     }
     Ok(())
 }
@@ -108,6 +184,9 @@ fn a_byte_behind_the_end_is_trailing(rt: HostRuntime) -> Result<(), Fail> {
     let mut longer = Vec::from_slice(rt.alloc(), &MAIN)?;
     longer.push(0)?;
     assert!(rt; longer.len() < 1000);
-    assert_eq!(rt; inspect(rt.alloc(), &longer), Finding::Class(ClassFault::Trailing(180)));
+    assert_eq!(rt;
+        inspect(rt.alloc(), &longer),
+        Finding::Class(ClassFault::Trailing(180))
+    );
     Ok(())
 }
