@@ -18,6 +18,7 @@ mod tests;
 
 ghost use Rattle.std.specs.Prelude.{◌≡◌, IfOk};
 ghost use Rattle.mvm_layout.specs.Answers.{AnswersInMemory};
+ghost use Rattle.mvm_layout.specs.Bounds.{IsWithinFile};
 ghost use Rattle.mvm_shape.specs.Shape.{shaped, rules, parts_of};
 
 use crate::attributes::test_names;
@@ -32,6 +33,7 @@ use std::alloc::Global;
 
 #[tactic(auto, unfolding(crate::specs::Shape::rules))]
 fn test_rules(alloc: Global, info: &ClassInfo) -> Result<(), ClassFault>
+    requires { IsWithinFile info.now }
     ensures { AnswersInMemory result (rules info.now) }
 {
     test_header(info)?;
@@ -69,6 +71,7 @@ fn parts_of(alloc: Global, info: ClassInfo) -> Result<Parts, OutOfMemory>
 /// time in proportion to n log n for n bytes, and memory in proportion to them.
 #[tactic(auto, unfolding(crate::specs::Shape::shaped))]
 pub fn shape<'a>(alloc: Global, info: ClassInfo<'a>) -> Result<Parts, ClassFault>
+    requires { IsWithinFile info }
     ensures { AnswersInMemory result (shaped info.entry) }
 {
     test_links(&info.pool)?;
