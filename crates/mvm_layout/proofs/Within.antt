@@ -3,6 +3,7 @@ use Rattle.std.proofs.Common.{◌≡◌, ℕ, zero, suc, ◌+◌, ◌-◌, ◌*�
 use Rattle.std.specs.Prelude.{All, get_or, nat_le, nat_lt}
 use Rattle.std.specs.Int.{w32, w64, cast_signed}
 use Rattle.std.proofs.lemmas.List.{length-append}
+use Rattle.std.proofs.lemmas.List.Elements.{All-nil, All-cons}
 use Rattle.byteorder.specs.Numbers.{big_from-lt}
 use Rattle.mvm_base.specs.ModifiedUtf8.{is_one_byte, spelled, spelled_all}
 use Rattle.mvm_layout.specs.Answers.{AnswersInMemory}
@@ -44,13 +45,6 @@ right text s t e b = back s t (subst AreBytes e b)
 
 parted : (text s t : List ℕ) → text ≡ s ++ t → length text ≡ length s + length t
 parted text s t e = ap length e ∙ length-append s t
-
-all_none : {A : Type 0} (P : A → Type 0) → All P []
-all_none P = λ k d l. absurd (omega arith)
-
-all_and : {A : Type 0} (P : A → Type 0) (x : A) (xs : List A) → P x → All P xs → All P (x ∷ xs)
-all_and P x xs one more zero d l = one
-all_and P x xs one more (suc k) d l = more k d (omega arith)
 
 -- ---- texts
 
@@ -159,13 +153,13 @@ record PoolWithin (count : ℕ) (xs : List Item) : Type 0 where
   texts : All HasFewUnits xs
 
 items_within : (is_upper : Bool) (index n : ℕ) (xs : List Item) (at : ℕ) (t : List ℕ) → length t < 2 ^ 32 → (items is_upper index n).spells xs at t → PoolWithin n xs
-items_within is_upper index zero xs at t few s = subst (PoolWithin 0) (sym s.0) (record { length_is = refl; texts = all_none HasFewUnits })
+items_within is_upper index zero xs at t few s = subst (PoolWithin 0) (sym s.0) (record { length_is = refl; texts = All-nil HasFewUnits })
 items_within is_upper index (suc n) xs at t few s =
     let h = s.1 in
     let whole = parted t h.0 h.1 h.4 in
     let one = entry_few is_upper index (n == 0) s.0.0 at h.0 (omega (arith, few, whole)) h.2 in
     let more = items_within (takes_two s.0.0) (index + 1) n s.0.1 (at + length h.0) h.1 (omega (arith, few, whole)) h.3 in
-    subst (PoolWithin (suc n)) s.2 (record { length_is = ap suc more.length_is; texts = all_and HasFewUnits s.0.0 s.0.1 one more.texts })
+    subst (PoolWithin (suc n)) s.2 (record { length_is = ap suc more.length_is; texts = All-cons HasFewUnits s.0.0 s.0.1 one more.texts })
 
 passed : (b : Bool) (x y : ℕ) → if_passing b x ≡ Some y → x ≡ y
 passed true x y e = cc
@@ -205,11 +199,11 @@ member_within x at t few s =
     omega (arith, few, place, more, one, two, three, flags.2.0, name.2.0, desc.2.0)
 
 times_within : (n : ℕ) (xs : List MemberInfo) (at : ℕ) (t : List ℕ) → at + length t < 2 ^ 32 → spells_times member n xs at t → All StandsWithin xs
-times_within zero xs at t few s = subst (All StandsWithin) (sym s.0) (all_none StandsWithin)
+times_within zero xs at t few s = subst (All StandsWithin) (sym s.0) (All-nil StandsWithin)
 times_within (suc n) [] at t few s = absurd s
 times_within (suc n) (x ∷ xs) at t few s =
     let whole = parted t s.0 s.1 s.4 in
-    all_and StandsWithin x xs (member_within x at s.0 (omega (arith, few, whole)) s.2) (times_within n xs (at + length s.0) s.1 (omega (arith, few, whole)) s.3)
+    All-cons StandsWithin x xs (member_within x at s.0 (omega (arith, few, whole)) s.2) (times_within n xs (at + length s.0) s.1 (omega (arith, few, whole)) s.3)
 
 members_within : (xs : List MemberInfo) (at : ℕ) (t : List ℕ) → at + length t < 2 ^ 32 → members.spells xs at t → All StandsWithin xs
 unfolding members
