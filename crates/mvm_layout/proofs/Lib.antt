@@ -2,3 +2,4 @@ pub mod Exactness
 pub mod Loops
 pub mod Texts
 pub mod Layouts
+pub mod Within

@@ -1,5 +1,6 @@
 ghost use Rattle.std.specs.Prelude.{◌≡◌, ◌<◌, ◌^◌, length, IfOk, Ok};
 ghost use Rattle.mvm_layout.specs.Answers.{AnswersInMemory};
+ghost use Rattle.mvm_layout.specs.Bounds.{IsWithinFile};
 ghost use Rattle.mvm_layout.specs.Format.{Format};
 ghost use Rattle.mvm_layout.specs.Layout.{layout, laid, code_laid, code_in};
 ghost use Rattle.mvm_layout.specs.declared.info.ClassInfo.{ClassInfo as ClassInfoOf};
@@ -33,6 +34,8 @@ pub fn read_layout<'a>(alloc: Global, bytes: &'a [u8]) -> Result<ClassInfo<'a>, 
     ensures found { IfOk result (λ info. layout.spells info 0 bytes.now) }
     // What the bytes spell is read, unless memory runs out.
     ensures only { (info : ClassInfoOf) → layout.spells info 0 bytes.now → AnswersInMemory result (Ok info) }
+    // Its places and counts are those of a file.
+    ensures within { IfOk result IsWithinFile }
 {
     laid(alloc, bytes)
 }

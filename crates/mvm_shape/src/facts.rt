@@ -1,7 +1,8 @@
-ghost use Rattle.std.specs.Prelude.{◌≡◌, ◌<◌, ◌^◌, ◌↔◌, IsTrue, codes, not, length, slice_get, IfOk};
+ghost use Rattle.std.specs.Prelude.{◌≡◌, ◌<◌, ◌^◌, codes, not, length, slice_get, All, IfOk};
 ghost use Rattle.std.specs.List.{list_all};
 ghost use Rattle.std.specs.Option.{option_map};
 ghost use Rattle.std.specs.Str.{bytes_eq};
+ghost use Rattle.mvm_layout.specs.Bounds.{HasFewUnits};
 ghost use Rattle.mvm_shape.specs.Pool.{text};
 ghost use Rattle.mvm_shape.specs.Members.{is_one_of, is_unqualified, is_method_name};
 ghost use Rattle.mvm_shape.specs.Facts.{as_field, as_method, facts_of, facts_of_item, all_facts, flattened};
@@ -82,20 +83,11 @@ fn is_method_name(units: &[u16]) -> bool
         || (is_unqualified(units) && has_no_bracket(units))
 }
 
-// A longer text stands in no file, and counts as want of memory.
-fn is_short(text: &Name) -> bool
-    ensures { IsTrue result ↔ (length text.now < 2 ^ 32) }
-{
-    text.units().len() <= 0xffff_ffff
-}
-
 #[tactic(auto, unfolding(crate::specs::Facts::as_field))]
 fn as_field(alloc: Global, text: &Name) -> Result<Descriptor, OutOfMemory>
+    requires { length text.now < 2 ^ 32 }
     ensures { IfOk result (λ found. found ≡ as_field text.now) }
 {
-    if !is_short(text) {
-        return Err(OutOfMemory);
-    }
     match parse_field(alloc, text) {
         Ok(_) => Ok(Descriptor::Whole(0)),
         Err(DescFault::Float) => Ok(Descriptor::Float),
@@ -109,11 +101,9 @@ fn as_field(alloc: Global, text: &Name) -> Result<Descriptor, OutOfMemory>
 
 #[tactic(auto, unfolding(crate::specs::Facts::as_method))]
 fn as_method(alloc: Global, text: &Name) -> Result<Descriptor, OutOfMemory>
+    requires { length text.now < 2 ^ 32 }
     ensures { IfOk result (λ found. found ≡ as_method text.now) }
 {
-    if !is_short(text) {
-        return Err(OutOfMemory);
-    }
     match parse_method(alloc, text) {
         Ok(method) => Ok(Descriptor::Whole(method.slots())),
         Err(DescFault::Float) => Ok(Descriptor::Float),
@@ -126,6 +116,7 @@ fn as_method(alloc: Global, text: &Name) -> Result<Descriptor, OutOfMemory>
 }
 
 fn facts_of(alloc: Global, text: &Name) -> Result<TextFacts, OutOfMemory>
+    requires { length text.now < 2 ^ 32 }
     ensures { IfOk result (λ facts. facts ≡ facts_of text.now) }
 {
     let field = as_field(alloc, text)?;
@@ -139,6 +130,7 @@ fn facts_of(alloc: Global, text: &Name) -> Result<TextFacts, OutOfMemory>
 }
 
 fn facts_of_item(alloc: Global, item: &Item) -> Result<Option<TextFacts>, OutOfMemory>
+    requires { HasFewUnits item.now }
     ensures { IfOk result (λ facts. facts ≡ facts_of_item item.now) }
 {
     match item {
@@ -155,6 +147,7 @@ pub(crate) fn all_facts(
     alloc: Global,
     pool: &List<Item>,
 ) -> Result<Vec<Option<TextFacts>>, OutOfMemory>
+    requires { All HasFewUnits pool.now }
     ensures { IfOk result (λ rows. rows.items ≡ all_facts pool.now) }
 {
     let items = pool.as_slice();

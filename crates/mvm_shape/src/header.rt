@@ -1,6 +1,6 @@
-ghost use Rattle.std.specs.Prelude.{◌≡◌, ◌≢◌, ◌+◌, ◌*◌};
-ghost use Rattle.mvm_layout.specs.Answers.{AnswersInMemory, Fails};
-ghost use Rattle.mvm_layout.specs.declared.fault.ClassFault.TheVariants.{OutOfMemory, Pool, Shape, Unsupported};
+ghost use Rattle.std.specs.Prelude.{◌≡◌, ◌<◌, ◌+◌, ◌*◌, ◌^◌, length};
+ghost use Rattle.mvm_layout.specs.Answers.{AnswersInMemory};
+ghost use Rattle.mvm_layout.specs.declared.fault.ClassFault.TheVariants.{Pool, Shape};
 ghost use Rattle.mvm_shape.specs.Pool.{entry, is_class};
 ghost use Rattle.mvm_shape.specs.Rules.{expect, each_from};
 ghost use Rattle.mvm_shape.specs.Members.{has_flag};
@@ -10,40 +10,32 @@ use crate::pool::{is_class, is_class_named, is_linked};
 use mvm_base::List;
 use mvm_layout::{ClassFault, ClassInfo, Item};
 
-/// The fault at a place. A place that no file reaches counts as want of memory.
+/// The fault so far behind a place.
 pub(crate) fn shape_fault(at: u32, by: u32) -> ClassFault
-    ensures { result ≢ OutOfMemory → result ≡ Shape (at + by) }
+    requires { at + by < 2 ^ 32 }
+    ensures { result ≡ Shape (at + by) }
 {
-    match at.checked_add(by) {
-        Some(place) => ClassFault::Shape(place),
-        None => ClassFault::OutOfMemory,
-    }
+    ClassFault::Shape(at + by)
 }
 
 fn interface_fault(at: u32, n: usize) -> ClassFault
-    ensures { result ≢ OutOfMemory → result ≡ Shape (at + 8 + 2 * n) }
+    requires { at + 8 + 2 * n < 2 ^ 32 }
+    ensures { result ≡ Shape (at + 8 + 2 * n) }
 {
-    if n > 0xffff {
-        return ClassFault::OutOfMemory;
-    }
-    match at.checked_add(8 + 2 * n as u32) {
-        Some(place) => ClassFault::Shape(place),
-        None => ClassFault::OutOfMemory,
-    }
+    ClassFault::Shape(at + 8 + 2 * n as u32)
 }
 
 fn pool_fault(n: usize) -> ClassFault
-    ensures { result ≢ OutOfMemory → result ≡ Pool (n + 1) }
+    requires { n < 65535 }
+    ensures { result ≡ Pool (n + 1) }
 {
-    if n >= 0xffff {
-        return ClassFault::OutOfMemory;
-    }
     ClassFault::Pool(n as u16 + 1)
 }
 
 /// Whether each entry of the constant pool names entries of the kind that it should. The fault is of the lowest.
 #[tactic(auto, unfolding(crate::specs::Shape::linked))]
 pub(crate) fn test_links(pool: &List<Item>) -> Result<(), ClassFault>
+    requires { length pool.now < 65535 }
     ensures { AnswersInMemory result (linked pool.now) }
 {
     let items = pool.as_slice();
@@ -86,6 +78,7 @@ fn has_superclass(info: &ClassInfo) -> bool
 
 #[tactic(auto, unfolding(crate::specs::Shape::are_interfaces))]
 fn test_interfaces(info: &ClassInfo) -> Result<(), ClassFault>
+    requires { info.now.at + 8 + 2 * length info.now.interfaces < 2 ^ 32 }
     ensures { AnswersInMemory result (are_interfaces info.now) }
 {
     let indices = info.interfaces.as_slice();
@@ -100,6 +93,7 @@ fn test_interfaces(info: &ClassInfo) -> Result<(), ClassFault>
 /// The class itself, its superclass and its interfaces.
 #[tactic(auto, unfolding(crate::specs::Shape::header))]
 pub(crate) fn test_header(info: &ClassInfo) -> Result<(), ClassFault>
+    requires { info.now.at + 8 + 2 * length info.now.interfaces < 2 ^ 32 }
     ensures { AnswersInMemory result (header info.now) }
 {
     if !is_class(&info.pool, info.this_class) {

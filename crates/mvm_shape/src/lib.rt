@@ -18,6 +18,7 @@ mod tests;
 
 ghost use Rattle.std.specs.Prelude.{◌≡◌, IfOk};
 ghost use Rattle.mvm_layout.specs.Answers.{AnswersInMemory};
+ghost use Rattle.mvm_layout.specs.Bounds.{IsWithinFile};
 ghost use Rattle.mvm_shape.specs.Shape.{shaped, rules, parts_of};
 
 use crate::attributes::test_names;
@@ -32,6 +33,7 @@ use std::alloc::Global;
 
 #[tactic(auto, unfolding(crate::specs::Shape::rules))]
 fn test_rules(alloc: Global, info: &ClassInfo) -> Result<(), ClassFault>
+    requires { IsWithinFile info.now }
     ensures { AnswersInMemory result (rules info.now) }
 {
     test_header(info)?;
@@ -65,10 +67,12 @@ fn parts_of(alloc: Global, info: ClassInfo) -> Result<Parts, OutOfMemory>
     })
 }
 
-/// The parts of a class file that is laid out, without the attributes that are passed over, or its first fault. It takes
-/// time in proportion to n log n for n bytes, and memory in proportion to them.
+/// The parts of a class file that is laid out, without the attributes that are passed over, or its first fault. Its places
+/// and counts are those of a file, as `read_layout` promises. It takes time in proportion to n log n for n bytes, and memory
+/// in proportion to them.
 #[tactic(auto, unfolding(crate::specs::Shape::shaped))]
 pub fn shape<'a>(alloc: Global, info: ClassInfo<'a>) -> Result<Parts, ClassFault>
+    requires { IsWithinFile info }
     ensures { AnswersInMemory result (shaped info.entry) }
 {
     test_links(&info.pool)?;

@@ -1,5 +1,6 @@
-ghost use Rattle.std.specs.Prelude.{◌≡◌, []};
+ghost use Rattle.std.specs.Prelude.{◌≡◌, [], All};
 ghost use Rattle.mvm_layout.specs.Answers.{AnswersInMemory};
+ghost use Rattle.mvm_layout.specs.Bounds.{StandsWithin};
 ghost use Rattle.mvm_shape.specs.Rules.{each_after};
 ghost use Rattle.mvm_shape.specs.Members.{field_rule, method_rule};
 ghost use Rattle.mvm_shape.specs.Facts.{all_facts};
@@ -24,6 +25,7 @@ pub(crate) fn test_fields(
 ) -> Result<(), ClassFault>
     requires rows { rows.now ≡ all_facts info.now.pool }
     requires numbers { AreNumbers info.now.pool numbers.now }
+    requires within { All StandsWithin info.now.fields }
     ensures { AnswersInMemory result (each_after [] (field_rule info.now.pool (is_interface info.now)) info.now.fields) }
 {
     let is_interface = is_interface(info);
@@ -48,6 +50,7 @@ pub(crate) fn test_methods(
 ) -> Result<(), ClassFault>
     requires rows { rows.now ≡ all_facts info.now.pool }
     requires numbers { AreNumbers info.now.pool numbers.now }
+    requires within { All StandsWithin info.now.methods }
     ensures { AnswersInMemory result (each_after [] (method_rule info.now.pool (is_interface info.now)) info.now.methods) }
 {
     let is_interface = is_interface(info);

@@ -1,8 +1,9 @@
-ghost use Rattle.std.specs.Prelude.{◌≡◌, ◌≢◌, ◌≤◌, ◌+◌, if◌then◌else◌};
+ghost use Rattle.std.specs.Prelude.{◌≡◌, ◌≤◌, ◌<◌, ◌+◌, ◌^◌, if◌then◌else◌};
 ghost use Rattle.std.specs.List.{filter};
 ghost use Rattle.std.specs.Option.{option_map};
 ghost use Rattle.mvm_layout.specs.Answers.{AnswersInMemory};
-ghost use Rattle.mvm_layout.specs.declared.fault.ClassFault.TheVariants.{OutOfMemory, Unsupported};
+ghost use Rattle.mvm_layout.specs.Bounds.{StandsWithin};
+ghost use Rattle.mvm_layout.specs.declared.fault.ClassFault.TheVariants.{Unsupported};
 ghost use Rattle.mvm_shape.specs.Pool.{text};
 ghost use Rattle.mvm_shape.specs.Rules.{expect};
 ghost use Rattle.mvm_shape.specs.Members.{is_static, is_native_or_abstract, is_unqualified, is_method_name, holds, field_descriptor, method_descriptor, is_sound_field, tested_field, is_sound_method, is_built, tested_method};
@@ -39,16 +40,15 @@ fn is_method_name(pool: &List<Item>, rows: &[Option<TextFacts>], index: u16) -> 
 }
 
 fn unsupported_fault(at: u32) -> ClassFault
-    ensures { result ≢ OutOfMemory → result ≡ Unsupported (at + 4) }
+    requires { at + 4 < 2 ^ 32 }
+    ensures { result ≡ Unsupported (at + 4) }
 {
-    match at.checked_add(4) {
-        Some(place) => ClassFault::Unsupported(place),
-        None => ClassFault::OutOfMemory,
-    }
+    ClassFault::Unsupported(at + 4)
 }
 
 fn test_read(at: u32, beside: u64, read: Descriptor) -> Result<(), ClassFault>
-    requires { beside ≤ 255 }
+    requires place { at + 4 < 2 ^ 32 }
+    requires few { beside ≤ 255 }
     ensures { AnswersInMemory result (tested_as (at + 4) beside read) }
 {
     match read {
@@ -87,7 +87,8 @@ fn test_field_descriptor(
     rows: &[Option<TextFacts>],
     member: &MemberInfo,
 ) -> Result<(), ClassFault>
-    requires { rows.now ≡ all_facts pool.now }
+    requires rows { rows.now ≡ all_facts pool.now }
+    requires within { StandsWithin member.now }
     ensures { AnswersInMemory result (field_descriptor (member.now.at + 4) (text pool.now member.now.desc)) }
 {
     let read = known_field(facts_at(pool, rows, member.desc));
@@ -107,7 +108,8 @@ fn test_method_descriptor(
     rows: &[Option<TextFacts>],
     member: &MemberInfo,
 ) -> Result<(), ClassFault>
-    requires { rows.now ≡ all_facts pool.now }
+    requires rows { rows.now ≡ all_facts pool.now }
+    requires within { StandsWithin member.now }
     ensures { AnswersInMemory result (method_descriptor (member.now.at + 4) member.now.flags (text pool.now member.now.desc)) }
 {
     let read = known_method(facts_at(pool, rows, member.desc));
@@ -137,7 +139,8 @@ pub(crate) fn test_field(
     is_repeated: bool,
     member: &MemberInfo,
 ) -> Result<(), ClassFault>
-    requires { rows.now ≡ all_facts pool.now }
+    requires rows { rows.now ≡ all_facts pool.now }
+    requires within { StandsWithin member.now }
     ensures { AnswersInMemory result (tested_field pool.now is_interface is_repeated member.now) }
 {
     if !is_sound_field(pool, is_interface, is_repeated, member) {
@@ -185,7 +188,8 @@ pub(crate) fn test_method(
     is_repeated: bool,
     member: &MemberInfo,
 ) -> Result<(), ClassFault>
-    requires { rows.now ≡ all_facts pool.now }
+    requires rows { rows.now ≡ all_facts pool.now }
+    requires within { StandsWithin member.now }
     ensures { AnswersInMemory result (tested_method pool.now is_interface is_repeated member.now) }
 {
     if !is_sound_method(pool, is_repeated, member) {

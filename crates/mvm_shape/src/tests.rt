@@ -1,23 +1,56 @@
+ghost use Rattle.std.specs.Prelude.{◌≡◌, ◌+◌, ◌<◌, ◌^◌, length, All, IfOk, OnOk};
+ghost use Rattle.mvm_layout.specs.Bounds.{HasFewUnits, StandsWithin, IsWithinFile};
+
 use super::*;
 use mvm_base::{List, Name};
 use mvm_layout::{Item, MemberInfo};
 use std::alloc::AllocError;
 use std::test::Fail;
 
+fn push_item(pool: &mut List<Item>, item: Item) -> Result<(), AllocError>
+    requires short { HasFewUnits item }
+    requires texts { All HasFewUnits pool.old }
+    ensures texts { All HasFewUnits pool.new }
+    ensures longer { OnOk result (length pool.new ≡ length pool.old + 1) }
+{
+    pool.push(item)?;
+    Ok(())
+}
+
+fn push_text(alloc: Global, pool: &mut List<Item>, text: &str) -> Result<(), AllocError>
+    requires short { length text.now < 2 ^ 32 }
+    requires texts { All HasFewUnits pool.old }
+    ensures texts { All HasFewUnits pool.new }
+    ensures longer { OnOk result (length pool.new ≡ length pool.old + 1) }
+{
+    let name = Name::from_ascii(alloc, text)?;
+    push_item(pool, Item::Utf8(name))
+}
+
 /// The class `A` under `java/lang/Object`, and texts: 7 and 5 are equal, and so are 8 and 6.
-fn pool(alloc: Global) -> Result<List<Item>, AllocError> {
+fn pool(alloc: Global) -> Result<List<Item>, AllocError>
+    ensures texts { IfOk result (All HasFewUnits) }
+    ensures count { IfOk result (λ pool. length pool ≡ 11) }
+{
     let mut pool = List::new(alloc);
     pool.push(Item::Class(2))?;
-    pool.push(Item::Utf8(Name::from_ascii(alloc, "A")?))?;
+    push_text(alloc, &mut pool, "A")?;
     pool.push(Item::Class(4))?;
-    pool.push(Item::Utf8(Name::from_ascii(alloc, "java/lang/Object")?))?;
-    for text in ["a", "I", "a", "I", "a<b", "F", "()V"] {
-        pool.push(Item::Utf8(Name::from_ascii(alloc, text)?))?;
-    }
+    push_text(alloc, &mut pool, "java/lang/Object")?;
+    push_text(alloc, &mut pool, "a")?;
+    push_text(alloc, &mut pool, "I")?;
+    push_text(alloc, &mut pool, "a")?;
+    push_text(alloc, &mut pool, "I")?;
+    push_text(alloc, &mut pool, "a<b")?;
+    push_text(alloc, &mut pool, "F")?;
+    push_text(alloc, &mut pool, "()V")?;
     Ok(pool)
 }
 
-fn class<'a>(alloc: Global, flags: u16, super_class: u16) -> Result<ClassInfo<'a>, AllocError> {
+fn class<'a>(alloc: Global, flags: u16, super_class: u16) -> Result<ClassInfo<'a>, AllocError>
+    ensures within { IfOk result IsWithinFile }
+    ensures count { IfOk result (λ info. length info.pool ≡ 11) }
+{
     Ok(ClassInfo {
         minor: 0,
         major: 52,
@@ -34,7 +67,10 @@ fn class<'a>(alloc: Global, flags: u16, super_class: u16) -> Result<ClassInfo<'a
 }
 
 /// An abstract member, which has no code.
-fn member<'a>(alloc: Global, at: u32, name: u16, desc: u16) -> MemberInfo<'a> {
+fn member<'a>(alloc: Global, at: u32, name: u16, desc: u16) -> MemberInfo<'a>
+    requires { at + 8 < 2 ^ 32 }
+    ensures { StandsWithin result }
+{
     MemberInfo {
         at,
         flags: 0x0400,
@@ -44,7 +80,21 @@ fn member<'a>(alloc: Global, at: u32, name: u16, desc: u16) -> MemberInfo<'a> {
     }
 }
 
-fn fault_of(alloc: Global, info: ClassInfo) -> Option<ClassFault> {
+fn push_member<'a>(
+    members: &mut List<MemberInfo<'a>>,
+    member: MemberInfo<'a>,
+) -> Result<(), AllocError>
+    requires one { StandsWithin member }
+    requires others { All StandsWithin members.old }
+    ensures { All StandsWithin members.new }
+{
+    members.push(member)?;
+    Ok(())
+}
+
+fn fault_of(alloc: Global, info: ClassInfo) -> Option<ClassFault>
+    requires { IsWithinFile info }
+{
     match shape(alloc, info) {
         Ok(_) => None,
         Err(fault) => Some(fault),
@@ -57,14 +107,14 @@ fn fault_of_fields(
     second: (u16, u16),
 ) -> Result<Option<ClassFault>, AllocError> {
     let mut info = class(alloc, 0x0021, 3)?;
-    info.fields.push(member(alloc, 200, first.0, first.1))?;
-    info.fields.push(member(alloc, 300, second.0, second.1))?;
+    push_member(&mut info.fields, member(alloc, 200, first.0, first.1))?;
+    push_member(&mut info.fields, member(alloc, 300, second.0, second.1))?;
     Ok(fault_of(alloc, info))
 }
 
 fn fault_of_method(alloc: Global, name: u16, desc: u16) -> Result<Option<ClassFault>, AllocError> {
     let mut info = class(alloc, 0x0021, 3)?;
-    info.methods.push(member(alloc, 200, name, desc))?;
+    push_member(&mut info.methods, member(alloc, 200, name, desc))?;
     Ok(fault_of(alloc, info))
 }
 
@@ -104,7 +154,7 @@ fn tests_a_header(rt: HostRuntime) -> Result<(), Fail> {
     info.this_class = 2;
     assert_eq!(rt; fault_of(alloc, info), Some(ClassFault::Shape(102)));
     let mut info = class(alloc, 0x0021, 3)?;
-    info.pool.push(Item::Str(1))?;
+    push_item(&mut info.pool, Item::Str(1))?;
     assert_eq!(rt; fault_of(alloc, info), Some(ClassFault::Pool(12)));
     Ok(())
 }
