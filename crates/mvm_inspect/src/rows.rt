@@ -2,7 +2,9 @@ ghost use Rattle.std.specs.Prelude.{◌≤◌, ◌+◌};
 
 use crate::inspect::{Finding, inspect};
 use mvm_check::{CheckFault, CheckKind};
-use mvm_classfile::ClassFault;
+use mvm_classfile::{ClassFault, ClassFile, write_class};
+use mvm_layout::read_layout;
+use mvm_shape::shape;
 use std::test::Fail;
 
 /// The class file of `public class Main`, whose `main` counts an int from 0 to 9 and prints each.
@@ -188,5 +190,14 @@ fn a_byte_behind_the_end_is_trailing(rt: HostRuntime) -> Result<(), Fail> {
         inspect(rt.alloc(), &longer),
         Finding::Class(ClassFault::Trailing(180))
     );
+    Ok(())
+}
+
+#[test]
+fn its_parts_are_the_class_again(rt: HostRuntime) -> Result<(), Fail> {
+    let parts = shape(rt.alloc(), read_layout(rt.alloc(), &MAIN)?)?;
+    let class = ClassFile::from_parts(rt.alloc(), parts)?;
+    let bytes = write_class(rt.alloc(), &class)?;
+    assert_eq!(rt; bytes.as_slice(), MAIN.as_slice());
     Ok(())
 }
