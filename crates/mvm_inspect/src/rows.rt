@@ -38,99 +38,32 @@ const CUTS: [(usize, u32); 11] = [
     (179, 178),
 ];
 
-/// Places, the bytes that are put there, how many of them, and what is found.
-const CHANGES: [(usize, [u8; 4], usize, Finding); 22] = [
-    (3, [0xbf, 0, 0, 0], 1, Finding::Class(ClassFault::Magic)),
-    (
-        7,
-        [0x35, 0, 0, 0],
-        1,
-        Finding::Class(ClassFault::Version(53)),
-    ),
-    (8, [0, 0, 0, 0], 2, Finding::Class(ClassFault::Pool(0))),
-    (13, [0x80, 0, 0, 0], 1, Finding::Class(ClassFault::Pool(1))),
-    (17, [2, 0, 0, 0], 1, Finding::Class(ClassFault::Pool(2))),
-    (92, [0, 0x0d, 0, 0], 2, Finding::Class(ClassFault::Pool(9))),
-    (
-        92,
-        [0xff, 0xff, 0, 0],
-        2,
-        Finding::Class(ClassFault::Pool(9)),
-    ),
-    (123, [0, 5, 0, 0], 2, Finding::Class(ClassFault::Shape(123))),
-    (125, [0, 0, 0, 0], 2, Finding::Class(ClassFault::Shape(125))),
-    (133, [1, 9, 0, 0], 2, Finding::Class(ClassFault::Shape(133))),
-    (135, [0, 6, 0, 0], 2, Finding::Class(ClassFault::Shape(135))),
-    (137, [0, 5, 0, 0], 2, Finding::Class(ClassFault::Shape(137))),
-    (
-        143,
-        [0xff, 0xff, 0xff, 0xff],
-        4,
-        Finding::Class(ClassFault::Truncated(147)),
-    ),
-    (151, [0, 0, 0, 0], 4, Finding::Class(ClassFault::Shape(141))),
-    (
-        149,
-        [0, 0, 0, 0],
-        2,
-        Finding::Code(CheckFault::Bad {
-            method: 0,
-            at: 0,
-            kind: CheckKind::BadLocal,
-        }),
-    ),
-    (
-        155,
-        [0xba, 0, 0, 0],
-        1,
-        Finding::Code(CheckFault::Bad {
-            method: 0,
-            at: 0,
-            kind: CheckKind::Unsupported,
-        }),
-    ),
-    (
-        155,
-        [0xcb, 0, 0, 0],
-        1,
-        Finding::Code(CheckFault::Bad {
-            method: 0,
-            at: 0,
-            kind: CheckKind::BadOpcode,
-        }),
-    ),
-    (
-        165,
-        [0, 0x0c, 0, 0],
-        2,
-        Finding::Code(CheckFault::Bad {
-            method: 0,
-            at: 9,
-            kind: CheckKind::BadIndex,
-        }),
-    ),
-    (
-        173,
-        [0, 0, 0, 0],
-        1,
-        Finding::Code(CheckFault::Bad {
-            method: 0,
-            at: 18,
-            kind: CheckKind::OffEnd,
-        }),
-    ),
-    (172, [0xf4, 0, 0, 0], 1, Finding::Sound),
-    (
-        172,
-        [0xf5, 0, 0, 0],
-        1,
-        Finding::Code(CheckFault::Bad {
-            method: 0,
-            at: 15,
-            kind: CheckKind::BadTarget,
-        }),
-    ),
-    (0, [0xca, 0xfe, 0xba, 0xbe], 4, Finding::Sound),
+/// Places, the bytes that are put there, how many of them, and the fault that the file has then.
+const FAULTS: [(usize, [u8; 4], usize, ClassFault); 14] = [
+    (3, [0xbf, 0, 0, 0], 1, ClassFault::Magic),
+    (7, [0x35, 0, 0, 0], 1, ClassFault::Version(53)),
+    (8, [0, 0, 0, 0], 2, ClassFault::Pool(0)),
+    (13, [0x80, 0, 0, 0], 1, ClassFault::Pool(1)),
+    (17, [2, 0, 0, 0], 1, ClassFault::Pool(2)),
+    (92, [0, 0x0d, 0, 0], 2, ClassFault::Pool(9)),
+    (92, [0xff, 0xff, 0, 0], 2, ClassFault::Pool(9)),
+    (123, [0, 5, 0, 0], 2, ClassFault::Shape(123)),
+    (125, [0, 0, 0, 0], 2, ClassFault::Shape(125)),
+    (133, [1, 9, 0, 0], 2, ClassFault::Shape(133)),
+    (135, [0, 6, 0, 0], 2, ClassFault::Shape(135)),
+    (137, [0, 5, 0, 0], 2, ClassFault::Shape(137)),
+    (143, [0xff, 0xff, 0xff, 0xff], 4, ClassFault::Truncated(147)),
+    (151, [0, 0, 0, 0], 4, ClassFault::Shape(141)),
+];
+
+/// The same, and the place and kind of the fault that the code of `main` has then.
+const CODE_FAULTS: [(usize, [u8; 4], usize, u32, CheckKind); 6] = [
+    (149, [0, 0, 0, 0], 2, 0, CheckKind::BadLocal),
+    (155, [0xba, 0, 0, 0], 1, 0, CheckKind::Unsupported),
+    (155, [0xcb, 0, 0, 0], 1, 0, CheckKind::BadOpcode),
+    (165, [0, 0x0c, 0, 0], 2, 9, CheckKind::BadIndex),
+    (172, [0xf5, 0, 0, 0], 1, 15, CheckKind::BadTarget),
+    (173, [0, 0, 0, 0], 1, 18, CheckKind::OffEnd),
 ];
 
 /// The file with some of the bytes put in at a place.
@@ -172,12 +105,36 @@ fn every_cut_is_truncated(rt: HostRuntime) -> Result<(), Fail> {
 }
 
 #[test]
-fn changes_are_found(rt: HostRuntime) -> Result<(), Fail> {
-    for (at, bytes, count, expected) in CHANGES {
+fn faults_of_the_file_are_found(rt: HostRuntime) -> Result<(), Fail> {
+    for (at, bytes, count, fault) in FAULTS {
         assert!(rt; at <= 176 && count <= 4);
-        let file = changed(at, bytes, count);
-        assert_eq!(rt; inspect(rt.alloc(), &file), expected, "changed at {at}");
+        let finding = inspect(rt.alloc(), &changed(at, bytes, count));
+        assert_eq!(rt; finding, Finding::Class(fault), "changed at {at}");
     }
+    Ok(())
+}
+
+#[test]
+fn faults_of_the_code_are_found(rt: HostRuntime) -> Result<(), Fail> {
+    for (place, bytes, count, at, kind) in CODE_FAULTS {
+        assert!(rt; place <= 176 && count <= 4);
+        let finding = inspect(rt.alloc(), &changed(place, bytes, count));
+        let fault = CheckFault::Bad {
+            method: 0,
+            at,
+            kind,
+        };
+        assert_eq!(rt; finding, Finding::Code(fault), "changed at {place}");
+    }
+    Ok(())
+}
+
+#[test]
+fn sound_files_are_sound(rt: HostRuntime) -> Result<(), Fail> {
+    assert_eq!(rt; inspect(rt.alloc(), &MAIN), Finding::Sound);
+    // the branch back leads to another instruction
+    let other = changed(172, [0xf4, 0, 0, 0], 1);
+    assert_eq!(rt; inspect(rt.alloc(), &other), Finding::Sound);
     Ok(())
 }
 
