@@ -5,8 +5,9 @@ use Rattle.mvm_layout.specs.declared.parts.Row.{Row}
 use Rattle.mvm_layout.specs.declared.parts.Code.{Code}
 use Rattle.mvm_layout.specs.declared.parts.Member.{Member}
 use Rattle.mvm_layout.specs.declared.parts.Parts.{Parts}
-use Rattle.mvm_shape.specs.Pool.{entry, is_class}
-use Rattle.mvm_check.specs.Rules.{expect, ◌and_then◌, each, each_from, told}
+use Rattle.mvm_layout.specs.Pool.{entry, is_class}
+use Rattle.mvm_base.specs.Rules.{expect, ◌and_then◌, each, each_from}
+use Rattle.mvm_check.specs.Rules.{told}
 use Rattle.mvm_check.specs.Starts.{starts_of, is_start}
 use Rattle.mvm_check.specs.Operands.{parameter_slots}
 use Rattle.mvm_check.specs.Locals.{has_room}

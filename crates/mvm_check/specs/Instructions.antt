@@ -4,6 +4,7 @@ use Rattle.std.specs.List.{list_all}
 use Rattle.mvm_insn.specs.Insns.{insn}
 use Rattle.mvm_insn.specs.Rows.{SwitchParts}
 use Rattle.mvm_insn.specs.Shapes.{between}
+use Rattle.mvm_insn.specs.declared.opcodes.TheConstants as jvm
 use Rattle.mvm_insn.specs.declared.fault.InsnFault.{InsnFault}
 use Rattle.mvm_insn.specs.declared.fault.InsnFault.TheVariants.{OffEnd as cut_off, Unknown, Unsupported as foreign, Switch}
 use Rattle.mvm_insn.specs.declared.parts.At.{At}
@@ -12,7 +13,7 @@ use Rattle.mvm_insn.specs.declared.parts.Insn.TheVariants.{Plain, Jump, Choice}
 use Rattle.mvm_insn.specs.declared.rows.SwitchRow.{SwitchRow}
 use Rattle.mvm_layout.specs.declared.parts.Item.{Item}
 use Rattle.mvm_layout.specs.declared.parts.Code.{Code}
-use Rattle.mvm_check.specs.Rules.{expect, ◌and_then◌}
+use Rattle.mvm_base.specs.Rules.{expect, ◌and_then◌}
 use Rattle.mvm_check.specs.Starts.{starts_of, begins}
 use Rattle.mvm_check.specs.Operands.{has_operands}
 use Rattle.mvm_check.specs.Locals.{locals_of}
@@ -51,9 +52,9 @@ has_targets starts _ = true
 
 -- a goto, a switch, a return or athrow: behind it the code may end
 unfoldable pub is_last : Insn → Bool
-is_last (Jump op target) = op == 0xA7 || op == 0xC8
+is_last (Jump op target) = op == jvm.GOTO || op == jvm.GOTO_W
 is_last (Choice op choice) = true
-is_last (Plain op) = between 0xAC 0xAD op || between 0xB0 0xB1 op || op == 0xBF
+is_last (Plain op) = between jvm.IRETURN jvm.LRETURN op || between jvm.ARETURN jvm.RETURN op || op == jvm.ATHROW
 is_last _ = false
 
 -- Its local variables are there. The room for the parameters is asked for at the first instruction.

@@ -7,8 +7,9 @@ use Rattle.mvm_base.specs.declared.descriptor.MethodShape.{MethodShape}
 use Rattle.mvm_base.specs.declared.descriptor.DescFault.{DescFault}
 use Rattle.mvm_layout.specs.declared.parts.Item.{Item}
 use Rattle.mvm_layout.specs.declared.parts.Item.TheVariants.{Utf8, Integer, Long, Class, Str, Fieldref, Methodref, InterfaceMethodref, NameAndType}
-use Rattle.mvm_shape.specs.Pool.{entry, is_class, text, class_name}
+use Rattle.mvm_layout.specs.Pool.{entry, is_class, text, class_name}
 use Rattle.mvm_insn.specs.Shapes.{between}
+use Rattle.mvm_insn.specs.declared.opcodes.TheConstants as jvm
 use Rattle.mvm_insn.specs.declared.parts.Insn.{Insn}
 use Rattle.mvm_insn.specs.declared.parts.Insn.TheVariants.{Pool, Interface, NewArray, Multi}
 
@@ -94,26 +95,26 @@ names_dimensions n None = false
 
 -- ldc and ldc_w, and ldc2_w
 unfoldable pub constant_operand : ℕ → Option Item → Bool
-constant_operand op item = if op == 0x14 then is_long item else is_loadable item
+constant_operand op item = if op == jvm.LDC2_W then is_long item else is_loadable item
 
 -- invokevirtual, invokespecial, and invokestatic
 unfoldable pub method_operand : List Item → ℕ → ℕ → Bool
 method_operand pool op index =
-    (is_method (entry pool index) || (not (op == 0xB6) && is_interface_method (entry pool index)))
-    && is_invocable (op == 0xB7) (method_name pool index)
+    (is_method (entry pool index) || (not (op == jvm.INVOKEVIRTUAL) && is_interface_method (entry pool index)))
+    && is_invocable (op == jvm.INVOKESPECIAL) (method_name pool index)
 
 -- new of no array, anewarray of fewer than 255 dimensions, checkcast, and instanceof
 unfoldable pub class_operand : List Item → ℕ → ℕ → Bool
 class_operand pool op index =
     is_class (entry pool index)
-    && not (op == 0xBB && names_dimensions 1 (class_name pool index))
-    && not (op == 0xBD && names_dimensions 255 (class_name pool index))
+    && not (op == jvm.NEW && names_dimensions 1 (class_name pool index))
+    && not (op == jvm.ANEWARRAY && names_dimensions 255 (class_name pool index))
 
 unfoldable pub pool_operand : List Item → ℕ → ℕ → Bool
 pool_operand pool op index =
-    if between 0x12 0x14 op then constant_operand op (entry pool index) else (
-    if between 0xB2 0xB5 op then is_field (entry pool index) else (
-    if between 0xB6 0xB8 op then method_operand pool op index else
+    if between jvm.LDC jvm.LDC2_W op then constant_operand op (entry pool index) else (
+    if between jvm.GETSTATIC jvm.PUTFIELD op then is_field (entry pool index) else (
+    if between jvm.INVOKEVIRTUAL jvm.INVOKESTATIC op then method_operand pool op index else
     class_operand pool op index))
 
 -- the count is the slots of the arguments, the receiver among them

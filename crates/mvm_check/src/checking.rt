@@ -1,8 +1,9 @@
 ghost use Rattle.std.specs.Prelude.{◌≡◌, ◌≤◌, length, IsTrue};
 ghost use Rattle.std.specs.List.{AllPass};
 ghost use Rattle.mvm_classfile.specs.Writing.{fits_code, has_few_bytes, is_countable};
-ghost use Rattle.mvm_shape.specs.Pool.{entry, is_class};
-ghost use Rattle.mvm_check.specs.Rules.{each, each_from, told, Answers};
+ghost use Rattle.mvm_layout.specs.Pool.{entry, is_class};
+ghost use Rattle.mvm_base.specs.Rules.{each, each_from};
+ghost use Rattle.mvm_check.specs.Rules.{told, Answers};
 ghost use Rattle.mvm_check.specs.Starts.{starts_of};
 ghost use Rattle.mvm_check.specs.Check.{covers, is_row, row_rule, stands_rule, keeps_rule, code_rule, method_rule, check_of};
 

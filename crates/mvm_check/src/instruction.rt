@@ -1,6 +1,6 @@
 ghost use Rattle.std.specs.Prelude.{◌≡◌, ◌<◌, ◌^◌, length};
 ghost use Rattle.std.specs.List.{list_all};
-ghost use Rattle.mvm_check.specs.Rules.{expect};
+ghost use Rattle.mvm_base.specs.Rules.{expect};
 ghost use Rattle.mvm_check.specs.Starts.{starts_of, begins};
 ghost use Rattle.mvm_check.specs.Instructions.{kind_of, stands, rows_begin, switch_begins, has_targets, is_last, has_locals, goes_on, kept, keeps};
 
@@ -9,7 +9,7 @@ use crate::fault::CheckKind;
 use crate::locals::locals_of;
 use crate::operands::has_operands;
 use crate::starts::Starts;
-use mvm_insn::{At, Insn, InsnFault, Switch, insn_at};
+use mvm_insn::{At, Insn, InsnFault, Switch, insn_at, opcodes};
 use mvm_layout::Code;
 
 fn kind_of(fault: InsnFault) -> CheckKind
@@ -69,9 +69,10 @@ fn is_last(insn: &Insn) -> bool
     ensures { result ≡ is_last insn.now }
 {
     match insn {
-        Insn::Jump { op, .. } => matches!(*op, 0xa7 | 0xc8),
+        Insn::Jump { op, .. } => matches!(*op, opcodes::GOTO | opcodes::GOTO_W),
         Insn::Choice { .. } => true,
-        Insn::Plain { op } => matches!(*op, 0xac..=0xad | 0xb0..=0xb1 | 0xbf),
+        Insn::Plain { op } =>
+            matches!(*op, opcodes::IRETURN..=opcodes::LRETURN | opcodes::ARETURN..=opcodes::RETURN | opcodes::ATHROW),
         _ => false,
     }
 }

@@ -1,19 +1,19 @@
 ghost use Rattle.std.specs.Prelude.{◌≡◌};
 ghost use Rattle.mvm_check.specs.Locals.{locals_of_plain, locals_of_named, locals_of, slots_of_this, has_room};
 
-use mvm_insn::Insn;
+use mvm_insn::{Insn, opcodes};
 
 #[tactic(auto, unfolding(crate::specs::Locals::locals_of_plain))]
 fn locals_of_plain(op: u8) -> u32
     ensures { result ≡ locals_of_plain op }
 {
     match op {
-        0x1a..=0x1d => u32::from(op - 0x1a) + 1,
-        0x1e..=0x21 => u32::from(op - 0x1e) + 2,
-        0x2a..=0x2d => u32::from(op - 0x2a) + 1,
-        0x3b..=0x3e => u32::from(op - 0x3b) + 1,
-        0x3f..=0x42 => u32::from(op - 0x3f) + 2,
-        0x4b..=0x4e => u32::from(op - 0x4b) + 1,
+        opcodes::ILOAD_0..=opcodes::ILOAD_3 => u32::from(op - opcodes::ILOAD_0) + 1,
+        opcodes::LLOAD_0..=opcodes::LLOAD_3 => u32::from(op - opcodes::LLOAD_0) + 2,
+        opcodes::ALOAD_0..=opcodes::ALOAD_3 => u32::from(op - opcodes::ALOAD_0) + 1,
+        opcodes::ISTORE_0..=opcodes::ISTORE_3 => u32::from(op - opcodes::ISTORE_0) + 1,
+        opcodes::LSTORE_0..=opcodes::LSTORE_3 => u32::from(op - opcodes::LSTORE_0) + 2,
+        opcodes::ASTORE_0..=opcodes::ASTORE_3 => u32::from(op - opcodes::ASTORE_0) + 1,
         _ => 0,
     }
 }
@@ -21,7 +21,7 @@ fn locals_of_plain(op: u8) -> u32
 fn locals_of_named(op: u8, local: u16) -> u32
     ensures { result ≡ locals_of_named op local }
 {
-    if op == 0x16 || op == 0x37 {
+    if op == opcodes::LLOAD || op == opcodes::LSTORE {
         u32::from(local) + 2
     } else {
         u32::from(local) + 1

@@ -1,7 +1,7 @@
 ghost use Rattle.std.specs.Prelude.{◌≡◌, codes};
 ghost use Rattle.std.specs.Option.{option_copied};
 ghost use Rattle.std.specs.Str.{bytes_eq};
-ghost use Rattle.mvm_shape.specs.Pool.{entry};
+ghost use Rattle.mvm_layout.specs.Pool.{entry};
 ghost use Rattle.mvm_check.specs.Operands.{is_invocable, has_dimensions, names_dimensions, constant_operand, method_operand, class_operand, pool_operand, is_count, interface_operand, is_item_kind, multi_operand, has_operands};
 
 use crate::constants::Constants;
@@ -10,7 +10,7 @@ use crate::pool::{
     method_desc, method_name,
 };
 use mvm_base::{List, Name};
-use mvm_insn::Insn;
+use mvm_insn::{Insn, opcodes};
 use mvm_layout::Item;
 
 /// Whether these units are `<init>`.
@@ -59,7 +59,7 @@ fn names_dimensions(dims: u8, name: Option<&Name>) -> bool
 fn constant_operand(pool: &List<Item>, op: u8, index: u16) -> bool
     ensures { result ≡ constant_operand op (entry pool.now index) }
 {
-    if op == 0x14 {
+    if op == opcodes::LDC2_W {
         is_long(pool, index)
     } else {
         is_loadable(pool, index)
@@ -70,8 +70,8 @@ fn constant_operand(pool: &List<Item>, op: u8, index: u16) -> bool
 fn method_operand(pool: &List<Item>, op: u8, index: u16) -> bool
     ensures { result ≡ method_operand pool.now op index }
 {
-    (is_method(pool, index) || (op != 0xb6 && is_interface_method(pool, index)))
-        && is_invocable(op == 0xb7, method_name(pool, index))
+    (is_method(pool, index) || (op != opcodes::INVOKEVIRTUAL && is_interface_method(pool, index)))
+        && is_invocable(op == opcodes::INVOKESPECIAL, method_name(pool, index))
 }
 
 #[tactic(auto, unfolding(crate::specs::Operands::class_operand))]
@@ -79,8 +79,8 @@ fn class_operand(pool: &List<Item>, op: u8, index: u16) -> bool
     ensures { result ≡ class_operand pool.now op index }
 {
     is_class(pool, index)
-        && !(op == 0xbb && names_dimensions(1, class_name(pool, index)))
-        && !(op == 0xbd && names_dimensions(255, class_name(pool, index)))
+        && !(op == opcodes::NEW && names_dimensions(1, class_name(pool, index)))
+        && !(op == opcodes::ANEWARRAY && names_dimensions(255, class_name(pool, index)))
 }
 
 #[tactic(auto, unfolding(crate::specs::Operands::pool_operand))]
@@ -88,9 +88,9 @@ fn pool_operand(pool: &List<Item>, op: u8, index: u16) -> bool
     ensures { result ≡ pool_operand pool.now op index }
 {
     match op {
-        0x12..=0x14 => constant_operand(pool, op, index),
-        0xb2..=0xb5 => is_field(pool, index),
-        0xb6..=0xb8 => method_operand(pool, op, index),
+        opcodes::LDC..=opcodes::LDC2_W => constant_operand(pool, op, index),
+        opcodes::GETSTATIC..=opcodes::PUTFIELD => is_field(pool, index),
+        opcodes::INVOKEVIRTUAL..=opcodes::INVOKESTATIC => method_operand(pool, op, index),
         _ => class_operand(pool, op, index),
     }
 }

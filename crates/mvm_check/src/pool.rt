@@ -1,6 +1,6 @@
 ghost use Rattle.std.specs.Prelude.{◌≡◌};
 ghost use Rattle.std.specs.Option.{option_copied};
-ghost use Rattle.mvm_shape.specs.Pool.{entry, is_class, text, class_name};
+ghost use Rattle.mvm_layout.specs.Pool.{entry, is_class, text, class_name};
 ghost use Rattle.mvm_check.specs.Operands.{is_loadable, is_long, is_field, is_method, is_interface_method, member_of, name_of, desc_of, method_name, method_desc};
 
 use mvm_base::{List, Name};

@@ -1,15 +1,20 @@
 -- What bytes are read as is what they spell, and keeps the rules.
 use Rattle.std.proofs.Common.{◌≡◌, ℕ, List, length, ◌<◌, ◌^◌, Some, Result, Ok, Err, refl, sym, subst, ◌∙◌, inl, inr, ◌⊎◌}
-use Rattle.mvm_layout.specs.Answers.{AnswersInMemory}
+use Rattle.mvm_base.specs.Answers.{AnswersUnless}
 use Rattle.mvm_layout.specs.Layout.{laid}
 use Rattle.mvm_layout.specs.declared.fault.ClassFault.{ClassFault}
 use Rattle.mvm_layout.specs.declared.fault.ClassFault.TheVariants.{Magic, Version, Truncated, Trailing, Pool, Shape, Unsupported, OutOfMemory}
 use Rattle.mvm_layout.specs.declared.parts.Parts.{Parts}
+use Rattle.mvm_layout.specs.declared.info.ClassInfo.{ClassInfo}
 use Rattle.mvm_layout.proofs.Exactness.{bind_ok}
 use Rattle.mvm_layout.proofs.Layouts.{laid-sound, laid-complete}
-use Rattle.mvm_shape.specs.Rules.{◌and_then◌}
+use Rattle.mvm_layout.proofs.Cuts.{laid-cut, laid-longer}
+use Rattle.std.specs.Prelude.{◌≢◌, ◌≤◌, [], ◌++◌}
+use Rattle.mvm_shape.specs.Lowest.{rank, IsWrong}
+use Rattle.mvm_shape.proofs.Lowest.{told, lowest, none}
+use Rattle.mvm_base.specs.Rules.{◌and_then◌}
 use Rattle.mvm_shape.specs.Shape.{linked, rules, parts_of, shaped}
-use Rattle.mvm_classfile.specs.Reading.{Reads, reading, fault_in, fault_of, Says, AreBytes, IsClassFile, IsParts, HasFault}
+use Rattle.mvm_classfile.specs.Reading.{Reads, reading, fault_in, fault_of, Says, AreBytes, IsClassFile, IsParts, HasFault, HasWrong}
 
 abbrev done : {A : Type 0} → A → Result A ClassFault
 done x = Ok x
@@ -34,31 +39,31 @@ reading-complete text parts r = rw (laid-complete text r.info r.spelled, r.linke
 
 -- ---- what an answer says
 
-told : (text : List ℕ) (fault : ClassFault) → reading text ≡ Err fault → fault_of text ≡ Some fault
+told_is : (text : List ℕ) (fault : ClassFault) → reading text ≡ Err fault → fault_of text ≡ Some fault
 unfolding fault_of
-told text fault e = rw e refl
+told_is text fault e = rw e refl
 
-pub says : (text : List ℕ) (answer : Result Parts ClassFault) → AnswersInMemory answer (reading text) → Says text answer
+pub says : (text : List ℕ) (answer : Result Parts ClassFault) → AnswersUnless OutOfMemory answer (reading text) → Says text answer
 says text (Ok parts) h = reading-sound text parts h
 says text (Err OutOfMemory) h = tt
-says text (Err Magic) h = told text Magic (h (λ k. cc))
-says text (Err (Version n)) h = told text (Version n) (h (λ k. cc))
-says text (Err (Truncated n)) h = told text (Truncated n) (h (λ k. cc))
-says text (Err (Trailing n)) h = told text (Trailing n) (h (λ k. cc))
-says text (Err (Pool n)) h = told text (Pool n) (h (λ k. cc))
-says text (Err (Shape n)) h = told text (Shape n) (h (λ k. cc))
-says text (Err (Unsupported n)) h = told text (Unsupported n) (h (λ k. cc))
+says text (Err Magic) h = told_is text Magic (h (λ k. cc))
+says text (Err (Version n)) h = told_is text (Version n) (h (λ k. cc))
+says text (Err (Truncated n)) h = told_is text (Truncated n) (h (λ k. cc))
+says text (Err (Trailing n)) h = told_is text (Trailing n) (h (λ k. cc))
+says text (Err (Pool n)) h = told_is text (Pool n) (h (λ k. cc))
+says text (Err (Shape n)) h = told_is text (Shape n) (h (λ k. cc))
+says text (Err (Unsupported n)) h = told_is text (Unsupported n) (h (λ k. cc))
 
-pub reads : (text : List ℕ) (answer : Result Parts ClassFault) → AnswersInMemory answer (reading text) → (parts : Parts) → Reads text parts → AnswersInMemory answer (Ok parts)
-reads text answer h parts r = subst (λ (d : Result Parts ClassFault). AnswersInMemory answer d) (reading-complete text parts r) h
+pub reads : (text : List ℕ) (answer : Result Parts ClassFault) → AnswersUnless OutOfMemory answer (reading text) → (parts : Parts) → Reads text parts → AnswersUnless OutOfMemory answer (Ok parts)
+reads text answer h parts r = subst (λ (d : Result Parts ClassFault). AnswersUnless OutOfMemory answer d) (reading-complete text parts r) h
 
 fault_is : (r : Result Parts ClassFault) (fault : ClassFault) → fault_in r ≡ Some fault → r ≡ Err fault
 fault_is (Ok parts) fault e = absurd cc
 fault_is (Err other) fault e = cc
 
-pub faults : (text : List ℕ) (answer : Result Parts ClassFault) → AnswersInMemory answer (reading text) → (fault : ClassFault) → fault_of text ≡ Some fault → AnswersInMemory answer (Err fault)
+pub faults : (text : List ℕ) (answer : Result Parts ClassFault) → AnswersUnless OutOfMemory answer (reading text) → (fault : ClassFault) → fault_of text ≡ Some fault → AnswersUnless OutOfMemory answer (Err fault)
 unfolding fault_of
-faults text answer h fault e = subst (λ (d : Result Parts ClassFault). AnswersInMemory answer d) (fault_is (reading text) fault e) h
+faults text answer h fault e = subst (λ (d : Result Parts ClassFault). AnswersUnless OutOfMemory answer d) (fault_is (reading text) fault e) h
 
 pub is_class_file : (text : List ℕ) (parts : Parts) → AreBytes text → length text < 2 ^ 32 → reading text ≡ Ok parts → IsClassFile parts
 is_class_file text parts bytes short e = record { text = text; bytes = bytes; short = short; reads = reading-sound text parts e }
@@ -77,4 +82,28 @@ either text = by (reading text) refl
   where
     by : (r : Result Parts ClassFault) → reading text ≡ r → IsParts text ⊎ HasFault text
     by (Ok parts) e = inl (parts, reading-sound text parts e)
-    by (Err fault) e = inr (fault, told text fault e)
+    by (Err fault) e = inr (fault, told_is text fault e)
+
+pub cut : (text more : List ℕ) (parts : Parts) → Reads (text ++ more) parts → more ≢ [] → (place : ℕ) × (place ≤ length text) × (fault_of text ≡ Some (Truncated place))
+unfolding reading fault_of
+cut text more parts r some = let c = laid-cut text more r.info r.spelled some in (c.0, c.1, rw c.2 refl)
+
+pub longer : (text more : List ℕ) (parts : Parts) → Reads text parts → more ≢ [] → fault_of (text ++ more) ≡ Some (Trailing (length text))
+unfolding reading fault_of
+longer text more parts r some = rw (laid-longer text more r.info r.spelled some) refl
+
+kept_or_not : (r : Result (Unit {0}) ClassFault) (parts : Parts) (fault : ClassFault) → (r and_then Ok parts) ≡ Err fault → r ≡ Err fault
+kept_or_not (Ok done) parts fault e = absurd cc
+kept_or_not (Err other) parts fault e = cc
+
+failed_rules : (text : List ℕ) (info : ClassInfo) (fault : ClassFault) → laid text ≡ Ok info → linked info.pool ≡ Ok tt → reading text ≡ Err fault → rules info ≡ Err fault
+unfolding reading shaped
+failed_rules text info fault a b e =
+    let k : (rules info and_then Ok (parts_of info)) ≡ Err fault = rw (a, b) at e in
+    kept_or_not (rules info) (parts_of info) fault k
+
+pub lowest_of : (text : List ℕ) (fault other : ClassFault) → HasWrong text other → fault_of text ≡ Some fault → HasWrong text fault × (rank fault ≤ rank other)
+unfolding fault_of
+lowest_of text fault other w e =
+    let r = failed_rules text w.info fault (laid-complete text w.info w.spelled) w.linked (fault_is (reading text) fault e) in
+    (record { info = w.info; spelled = w.spelled; linked = w.linked; wrong = told text w.info fault w.spelled r }, lowest text w.info fault other w.spelled r w.wrong)

@@ -12,9 +12,10 @@ use Rattle.mvm_layout.specs.declared.fault.ClassFault.TheVariants.{Shape}
 use Rattle.mvm_layout.specs.declared.parts.Item.{Item}
 use Rattle.mvm_layout.specs.declared.parts.Member.{Member}
 use Rattle.mvm_layout.specs.declared.info.MemberInfo.{MemberInfo}
-use Rattle.mvm_shape.specs.Pool.{entry, is_utf8, text, is_text}
-use Rattle.mvm_shape.specs.Rules.{each, each_after}
-use Rattle.mvm_shape.specs.Members.{is_static, is_unqualified, holds, field_descriptor, is_named, constants_among, is_constant_value, field_attribute, is_repeated, is_sound_field, tested_field, field_rule, first, index_in, field_part}
+use Rattle.mvm_layout.specs.Pool.{entry, is_utf8, text, is_text}
+use Rattle.mvm_base.specs.Rules.{each, each_after}
+use Rattle.mvm_layout.specs.Flags.{is_static}
+use Rattle.mvm_shape.specs.Members.{is_unqualified, holds, field_descriptor, is_named, constants_among, is_constant_value, field_attribute, is_repeated, is_sound_field, tested_field, field_rule, first, index_in, field_part}
 use Rattle.mvm_classfile.specs.Writing.{u2, Names, written_attribute, written_member}
 use Rattle.mvm_classfile.proofs.Plain.{plain_u2, number_again}
 use Rattle.mvm_classfile.proofs.Pieces.{Each, AttributeFits, MemberFits, attribute_again, member_again, counted_again}

@@ -4,18 +4,20 @@ use Rattle.std.specs.Prelude.{nat_lt, map}
 use Rattle.std.specs.List.{flat_map, list_all}
 use Rattle.std.proofs.lemmas.Bool.{lt-ltb}
 use Rattle.std.proofs.lemmas.List.{length-map}
-use Rattle.mvm_layout.specs.Answers.{AnswersInMemory}
+use Rattle.mvm_base.specs.Answers.{AnswersUnless}
 use Rattle.mvm_layout.specs.Format.{spells_times}
 use Rattle.mvm_layout.specs.Layout.{member, members, magic, major, body, Body, info_of, layout}
 use Rattle.mvm_layout.specs.declared.fault.ClassFault.{ClassFault}
+use Rattle.mvm_layout.specs.declared.fault.ClassFault.TheVariants.{OutOfMemory}
 use Rattle.mvm_layout.specs.declared.parts.Item.{Item}
 use Rattle.mvm_layout.specs.declared.parts.Member.{Member}
 use Rattle.mvm_layout.specs.declared.parts.Parts.{Parts}
 use Rattle.mvm_layout.specs.declared.info.MemberInfo.{MemberInfo}
 use Rattle.mvm_layout.specs.declared.info.ClassInfo.{ClassInfo}
-use Rattle.mvm_shape.specs.Rules.{each_after}
+use Rattle.mvm_base.specs.Rules.{each_after}
 use Rattle.mvm_shape.specs.Members.{field_rule, method_rule, field_part, method_part}
-use Rattle.mvm_shape.specs.Shape.{is_interface, parts_of}
+use Rattle.mvm_layout.specs.Flags.{is_interface}
+use Rattle.mvm_shape.specs.Shape.{parts_of}
 use Rattle.mvm_classfile.specs.Reading.{AreBytes, IsClassFile}
 use Rattle.mvm_classfile.specs.Writing.{u2, u4, names_in, written_pool, written_member, written_members, written, fits_code, lists_fit, has_few_bytes, is_countable, fits, rebuilt}
 use Rattle.mvm_classfile.proofs.Plain.{left_bytes, right_bytes, counted_lt}
@@ -120,7 +122,7 @@ major_length : (n at : ℕ) (t : List ℕ) → major.spells n at t → length t 
 unfolding major
 major_length n at t s = s.1.0
 
-short : (info : ClassInfo) (at : ℕ) (t : List ℕ) → AreBytes t → layout.spells info at t → each_after [] (field_rule info.pool (is_interface info)) info.fields ≡ kept → each_after [] (method_rule info.pool (is_interface info)) info.methods ≡ kept → Short info t
+short : (info : ClassInfo) (at : ℕ) (t : List ℕ) → AreBytes t → layout.spells info at t → each_after [] (field_rule info.pool (is_interface info.flags)) info.fields ≡ kept → each_after [] (method_rule info.pool (is_interface info.flags)) info.methods ≡ kept → Short info t
 unfolding layout
 short info at t b s fk mk =
     let x = s.0 in
@@ -133,9 +135,9 @@ short info at t b s fk mk =
     let k = j.3 in
     let b4 = right_bytes j.1 k.0 k.1 k.4 b3 in
     let c3 = left_bytes j.1 k.0 k.1 k.4 b3 in
-    let fx = subst (λ (z : ClassInfo). each_after [] (field_rule z.pool (is_interface z)) z.fields ≡ kept) (sym s.2) fk in
-    let mx = subst (λ (z : ClassInfo). each_after [] (method_rule z.pool (is_interface z)) z.methods ≡ kept) (sym s.2) mk in
-    let f = body_short x.1.1.1.0 (is_interface (info_of x)) x.1.1.1.1 _ k.1 b4 k.3 fx mx in
+    let fx = subst (λ (z : ClassInfo). each_after [] (field_rule z.pool (is_interface z.flags)) z.fields ≡ kept) (sym s.2) fk in
+    let mx = subst (λ (z : ClassInfo). each_after [] (method_rule z.pool (is_interface z.flags)) z.methods ≡ kept) (sym s.2) mk in
+    let f = body_short x.1.1.1.0 (is_interface (info_of x).flags) x.1.1.1.1 _ k.1 b4 k.3 fx mx in
     let p : length k.0 ≡ length (written_pool x.1.1.1.0) = ap length (pool_plain.written x.1.1.1.0 _ k.0 c3 k.2) in
     let made : Short (info_of x) t = record {
       pool = pool_short x.1.1.1.0 _ k.0 c3 k.2;
@@ -198,5 +200,5 @@ unfolding rebuilt
 rebuilt_is parts is = rw (parts_fit parts is) (reading-complete (written parts) parts (written_again parts is))
 
 -- what an answer says of the parts of a class file
-pub made : (parts : Parts) (answer : Result Parts ClassFault) → AnswersInMemory answer (rebuilt parts) → IsClassFile parts → AnswersInMemory answer (Ok parts)
-made parts answer h is = subst (λ (d : Result Parts ClassFault). AnswersInMemory answer d) (rebuilt_is parts is) h
+pub made : (parts : Parts) (answer : Result Parts ClassFault) → AnswersUnless OutOfMemory answer (rebuilt parts) → IsClassFile parts → AnswersUnless OutOfMemory answer (Ok parts)
+made parts answer h is = subst (λ (d : Result Parts ClassFault). AnswersUnless OutOfMemory answer d) (rebuilt_is parts is) h

@@ -13,9 +13,10 @@ use Rattle.mvm_layout.specs.declared.parts.Member.{Member}
 use Rattle.mvm_layout.specs.declared.info.MemberInfo.{MemberInfo}
 use Rattle.mvm_layout.specs.declared.info.CodeInfo.{CodeInfo}
 use Rattle.mvm_layout.proofs.Layouts.{code_in-sound, code_in-complete}
-use Rattle.mvm_shape.specs.Pool.{entry, is_utf8, text, is_text}
-use Rattle.mvm_shape.specs.Rules.{each, each_after}
-use Rattle.mvm_shape.specs.Members.{is_native_or_abstract, is_method_name, holds, method_descriptor, is_named, codes_among, named_attribute, code_attribute, method_attribute, is_repeated, is_sound_method, is_built, tested_method, method_rule, first, code_of_info, code_of, method_part}
+use Rattle.mvm_layout.specs.Pool.{entry, is_utf8, text, is_text}
+use Rattle.mvm_base.specs.Rules.{each, each_after}
+use Rattle.mvm_layout.specs.Flags.{has_no_code}
+use Rattle.mvm_shape.specs.Members.{is_method_name, holds, method_descriptor, is_named, codes_among, named_attribute, code_attribute, method_attribute, is_repeated, is_sound_method, is_built, tested_method, method_rule, first, code_of_info, code_of, method_part}
 use Rattle.mvm_classfile.specs.Writing.{u2, Names, written_attribute, written_code, written_member}
 use Rattle.mvm_classfile.proofs.Pieces.{Each, AttributeFits, MemberFits, code_fits, attribute_again, member_again, counted_again}
 use Rattle.mvm_classfile.proofs.Named.{text_is_utf8}
@@ -39,8 +40,8 @@ pub record IsCode (pool : List Item) (names : Names) (c : Code) : Type 0 where
   pub short : length (written_code c) < 256 ^ 4
 
 abbrev pub CodeSound : List Item → Names → ℕ → Option Code → Type 0
-CodeSound pool names flags None = is_native_or_abstract flags ≡ true
-CodeSound pool names flags (Some c) = (is_native_or_abstract flags ≡ false) × IsCode pool names c
+CodeSound pool names flags None = has_no_code flags ≡ true
+CodeSound pool names flags (Some c) = (has_no_code flags ≡ false) × IsCode pool names c
 
 method_spelled_at : (pool : List Item) (names : Names) (at flags name desc : ℕ) (c : Option Code) → flags < 256 ^ 2 → name < 256 ^ 2 → desc < 256 ^ 2 → CodeSound pool names flags c
     → member.spells (method_info names at (record { flags = flags; name = name; desc = desc; constant = None; code = c })) at (written_member names (record { flags = flags; name = name; desc = desc; constant = None; code = c }))
@@ -66,7 +67,7 @@ not_true true h = absurd cc
 not_true false h = refl
 
 abbrev HasCodes : List Item → MemberInfo → Type 0
-HasCodes pool m = (length (codes_among pool m.attributes) == cond (is_native_or_abstract m.flags) 0 1) ≡ true
+HasCodes pool m = (length (codes_among pool m.attributes) == cond (has_no_code m.flags) 0 1) ≡ true
 
 method_kept : (pool : List Item) (is_interface repeated : Bool) (m : MemberInfo) → tested_method pool is_interface repeated m ≡ kept → MethodKept pool is_interface repeated m × HasCodes pool m
 unfolding tested_method is_sound_method
@@ -110,7 +111,7 @@ first_code pool is_interface before m a more fits f k =
     let one = first_found AttributeFits (is_named pool (codes "Code")) (method_attribute pool) m.attributes more a fits.attributes rule f in
     (one.fits, is_in pool a one.keeps one.passes)
 
-sound_of : (pool : List Item) (names : Names) (a : AttributeParts) (flags : ℕ) → Serves pool (codes "Code") names.code → AttributeFits a → is_named pool (codes "Code") a ≡ true → IsIn a → is_native_or_abstract flags ≡ false
+sound_of : (pool : List Item) (names : Names) (a : AttributeParts) (flags : ℕ) → Serves pool (codes "Code") names.code → AttributeFits a → is_named pool (codes "Code") a ≡ true → IsIn a → has_no_code flags ≡ false
     → CodeSound pool names flags (code_of (Some a))
 sound_of pool names a flags serves fits named i s =
     let spelled = code_in-sound a i.info i.is in
@@ -119,7 +120,7 @@ sound_of pool names a flags serves fits named i s =
     let short : length (written_code i.info.code) < 256 ^ 4 = omega (arith, c.short, fits.short) in
     subst (λ (o : Option CodeInfo). CodeSound pool names flags (code_of_info o)) (sym i.is) (s, record { named = serves.named a.name named; low = low; spelled = c.spelled; short = short })
 
-code_sound_at : (pool : List Item) (names : Names) (m : MemberInfo) (is : Bool) (found : List AttributeParts) → Serves pool (codes "Code") names.code → MemberFits m → is_native_or_abstract m.flags ≡ is → filter (is_named pool (codes "Code")) m.attributes ≡ found
+code_sound_at : (pool : List Item) (names : Names) (m : MemberInfo) (is : Bool) (found : List AttributeParts) → Serves pool (codes "Code") names.code → MemberFits m → has_no_code m.flags ≡ is → filter (is_named pool (codes "Code")) m.attributes ≡ found
     → (length found == cond is 0 1) ≡ true → each (method_attribute pool) m.attributes ≡ kept → CodeSound pool names m.flags (code_of (first found))
 code_sound_at pool names m true [] serves fits s f n k = s
 code_sound_at pool names m false [] serves fits s f n k = absurd cc
@@ -133,7 +134,7 @@ code_sound : (pool : List Item) (names : Names) (is_interface : Bool) (before : 
 unfolding method_part method_rule
 code_sound pool names is_interface before m serves fits e =
     let k = method_kept pool is_interface (is_repeated pool before m) m e in
-    code_sound_at pool names m (is_native_or_abstract m.flags) _ serves fits refl refl k.1 k.0.attributes
+    code_sound_at pool names m (has_no_code m.flags) _ serves fits refl refl k.1 k.0.attributes
 
 -- ---- the method built anew
 

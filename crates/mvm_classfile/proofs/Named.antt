@@ -3,7 +3,7 @@ use Rattle.std.proofs.Common.{◌≡◌, ℕ, zero, suc, ◌+◌, ◌≤◌, Boo
 use Rattle.std.specs.Prelude.{slice_get}
 use Rattle.mvm_layout.specs.declared.parts.Item.{Item}
 use Rattle.mvm_layout.specs.declared.parts.Item.TheVariants.{Utf8, Integer, Float, Long, Double, Upper, Class, Str, Fieldref, Methodref, InterfaceMethodref, NameAndType, MethodHandle, MethodType, InvokeDynamic}
-use Rattle.mvm_shape.specs.Pool.{is_utf8, text_of, text, is_text}
+use Rattle.mvm_layout.specs.Pool.{is_utf8, text_of, text, is_text}
 use Rattle.mvm_classfile.specs.Writing.{is_text_item, index_from, name_index}
 
 -- the same test of an item that is there

@@ -9,8 +9,8 @@ use Rattle.mvm_base.specs.Descriptor.{field_of, method_of}
 use Rattle.mvm_layout.specs.declared.fault.ClassFault.{ClassFault}
 use Rattle.mvm_layout.specs.declared.parts.Item.{Item}
 use Rattle.mvm_layout.specs.declared.info.MemberInfo.{MemberInfo}
-use Rattle.mvm_shape.specs.Pool.{text}
-use Rattle.mvm_shape.specs.Rules.{expect, ◌and_then◌, each}
+use Rattle.mvm_layout.specs.Pool.{text}
+use Rattle.mvm_base.specs.Rules.{expect, ◌and_then◌, each}
 use Rattle.mvm_shape.specs.Members.{parsed, field_descriptor, method_descriptor, has_few_parameters, same_text, is_same, is_repeated}
 use Rattle.mvm_classfile.proofs.Pieces.{Each}
 

@@ -13,8 +13,9 @@ use Rattle.mvm_layout.specs.declared.parts.Member.{Member}
 use Rattle.mvm_layout.specs.declared.info.MemberInfo.{MemberInfo}
 use Rattle.mvm_layout.specs.declared.info.CodeInfo.{CodeInfo}
 use Rattle.mvm_layout.proofs.Layouts.{code_in-sound}
-use Rattle.mvm_shape.specs.Rules.{each_after}
-use Rattle.mvm_shape.specs.Members.{is_static, is_named, field_rule, method_rule, first, index_in, field_part, code_of_info, code_of, method_part}
+use Rattle.mvm_base.specs.Rules.{each_after}
+use Rattle.mvm_layout.specs.Flags.{is_static}
+use Rattle.mvm_shape.specs.Members.{is_named, field_rule, method_rule, first, index_in, field_part, code_of_info, code_of, method_part}
 use Rattle.mvm_classfile.specs.Writing.{Names, written_code, written_member, fits_code, has_few_bytes}
 use Rattle.mvm_classfile.proofs.Pieces.{Each, MemberFits, CodeFits, code_fits, at_least_two}
 use Rattle.mvm_classfile.proofs.Rule.{kept, both}

@@ -12,10 +12,11 @@ use Rattle.mvm_layout.specs.declared.parts.Member.{Member}
 use Rattle.mvm_layout.specs.declared.parts.Parts.{Parts}
 use Rattle.mvm_layout.specs.declared.info.MemberInfo.{MemberInfo}
 use Rattle.mvm_layout.specs.declared.info.ClassInfo.{ClassInfo}
-use Rattle.mvm_shape.specs.Pool.{entry, is_class, text}
-use Rattle.mvm_shape.specs.Rules.{expect, each_from, each_after}
+use Rattle.mvm_layout.specs.Pool.{entry, is_class, text}
+use Rattle.mvm_base.specs.Rules.{expect, each_from, each_after}
 use Rattle.mvm_shape.specs.Members.{field_rule, method_rule, field_part, method_part}
-use Rattle.mvm_shape.specs.Shape.{linked, is_interface, has_superclass, are_interfaces, header, rules, parts_of}
+use Rattle.mvm_layout.specs.Flags.{is_interface}
+use Rattle.mvm_shape.specs.Shape.{linked, has_superclass, are_interfaces, header, rules, parts_of}
 use Rattle.mvm_classfile.specs.Reading.{AreBytes, Reads, IsClassFile}
 use Rattle.mvm_classfile.specs.Writing.{u2, u4, names_in, written_pool, written_member, written_members, written}
 use Rattle.mvm_classfile.proofs.Plain.{left_bytes, right_bytes, number_lt, number_again, plain_u2, counted_lt}
@@ -235,8 +236,8 @@ header_again info at fields methods e =
 
 pub record RulesKept (info : ClassInfo) : Type 0 where
   pub header : header info ≡ kept
-  pub fields : each_after [] (field_rule info.pool (is_interface info)) info.fields ≡ kept
-  pub methods : each_after [] (method_rule info.pool (is_interface info)) info.methods ≡ kept
+  pub fields : each_after [] (field_rule info.pool (is_interface info.flags)) info.fields ≡ kept
+  pub methods : each_after [] (method_rule info.pool (is_interface info.flags)) info.methods ≡ kept
 
 pub rules_kept : (info : ClassInfo) → rules info ≡ kept → RulesKept info
 unfolding rules
@@ -246,7 +247,7 @@ rules_kept info e =
     let c = both _ _ tt b.0 in
     record { header = c.0; fields = c.1; methods = b.1 }
 
-rules_again : (info : ClassInfo) (at : ℕ) (fields methods : List MemberInfo) → header info ≡ kept → each_after [] (field_rule info.pool (is_interface info)) fields ≡ kept → each_after [] (method_rule info.pool (is_interface info)) methods ≡ kept
+rules_again : (info : ClassInfo) (at : ℕ) (fields methods : List MemberInfo) → header info ≡ kept → each_after [] (field_rule info.pool (is_interface info.flags)) fields ≡ kept → each_after [] (method_rule info.pool (is_interface info.flags)) methods ≡ kept
     → rules (moved info at fields methods) ≡ kept
 unfolding rules moved
 rules_again info at fields methods h f m = both_again _ _ (both_again _ _ (both_again _ _ (header_again info at fields methods h) f) m) refl
@@ -301,8 +302,8 @@ info_again info fits link rule =
     let names = names_in info.pool in
     let fs = map (field_part info.pool) info.fields in
     let ms = map (method_part info.pool) info.methods in
-    let f = fields_again info.pool names (is_interface info) (serves_constant info.pool) [] [] (fields_at info + 2) info.fields fits.fields rule.fields refl in
-    let m = methods_again info.pool names (is_interface info) (serves_code info.pool) [] [] ((fields_at info + length (members_text info fs)) + 2) info.methods fits.methods rule.methods refl in
+    let f = fields_again info.pool names (is_interface info.flags) (serves_constant info.pool) [] [] (fields_at info + 2) info.fields fits.fields rule.fields refl in
+    let m = methods_again info.pool names (is_interface info.flags) (serves_code info.pool) [] [] ((fields_at info + length (members_text info fs)) + 2) info.methods fits.methods rule.methods refl in
     let fl : length fs < 256 ^ 2 = rw length-map fits.field_count in
     let ml : length ms < 256 ^ 2 = rw length-map fits.method_count in
     record {

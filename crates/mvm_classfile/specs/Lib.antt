@@ -1,6 +1,5 @@
 pub mod Reading
 pub mod Writing
-pub use Rattle.mvm_layout.specs.Answers
 pub use Rattle.mvm_layout.specs.Layout
-pub use Rattle.mvm_shape.specs.Pool
+pub use Rattle.mvm_layout.specs.Pool
 pub use Rattle.mvm_shape.specs.Shape

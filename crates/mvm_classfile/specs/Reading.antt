@@ -7,6 +7,7 @@ use Rattle.mvm_layout.specs.declared.fault.ClassFault.TheVariants.{OutOfMemory}
 use Rattle.mvm_layout.specs.declared.info.ClassInfo.{ClassInfo}
 use Rattle.mvm_layout.specs.declared.parts.Parts.{Parts}
 use Rattle.mvm_shape.specs.Shape.{linked, rules, parts_of, shaped}
+use Rattle.mvm_shape.specs.Lowest.{IsWrong}
 
 -- The bytes are the spellings of what stands in a class file, one after the other, with any attributes where attributes stand. Each
 -- entry of its constant pool is linked, all its rules are kept, and these are its parts.
@@ -54,3 +55,10 @@ pub record IsClassFile (parts : Parts) : Type 0 where
   pub bytes : AreBytes text
   pub short : length text < 2 ^ 32
   pub reads : Reads text parts
+
+-- the bytes are laid out, the constant pool is linked, and behind it this is wrong, among other things perhaps
+pub record HasWrong (text : List ℕ) (fault : ClassFault) : Type 0 where
+  pub info : ClassInfo
+  pub spelled : layout.spells info 0 text
+  pub linked : linked info.pool ≡ Ok tt
+  pub wrong : IsWrong info fault

@@ -37,13 +37,7 @@ impl ClassFile {
         ensures value { result.now ≡ self.now }
         // Each list is short enough for its count, and the code of a method has at most 65,535 bytes.
         ensures short { IsTrue (is_countable self.now) }
-    {
-        &self.parts
-    }
-
-    /// The same parts, with what they keep.
-    pub(crate) fn kept_parts(&self) -> &Parts
-        ensures value { result.now ≡ self.now }
+        // They keep the rules of their format.
         ensures keeps { IsClassFile self.now }
     {
         &self.parts

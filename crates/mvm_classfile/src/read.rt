@@ -1,5 +1,5 @@
-ghost use Rattle.std.specs.Prelude.{◌≡◌, ◌<◌, ◌^◌, ◌+◌, length, OnOk, Ok, Err, Some};
-ghost use Rattle.mvm_layout.specs.Answers.{AnswersInMemory};
+ghost use Rattle.std.specs.Prelude.{◌≡◌, ◌<◌, ◌^◌, ◌+◌, length, OnOk, OnErr, Ok, Err, Some};
+ghost use Rattle.mvm_base.specs.Answers.{AnswersUnless};
 ghost use Rattle.mvm_layout.specs.declared.fault.ClassFault.{ClassFault as Fault};
 ghost use Rattle.mvm_layout.specs.declared.parts.Parts.{Parts as PartsOf};
 ghost use Rattle.mvm_classfile.specs.Reading.{Reads, reading, fault_of, Says};
@@ -15,7 +15,7 @@ use std::sync::ledger::Ledger;
 #[tactic(auto, unfolding(crate::specs::Reading::reading))]
 fn read_parts(alloc: Global, bytes: &[u8]) -> Result<Parts, ClassFault>
     requires { length bytes.now < 2 ^ 32 }
-    ensures { AnswersInMemory result (reading bytes.now) }
+    ensures { AnswersUnless ClassFault.OutOfMemory result (reading bytes.now) }
 {
     let info = read_layout(alloc, bytes)?;
     shape(alloc, info)
@@ -24,7 +24,7 @@ fn read_parts(alloc: Global, bytes: &[u8]) -> Result<Parts, ClassFault>
 /// The class file of what the bytes read as, or their first fault.
 pub(crate) fn read_file(alloc: Global, bytes: &[u8]) -> Result<ClassFile, ClassFault>
     requires { length bytes.now < 2 ^ 32 }
-    ensures { AnswersInMemory result (reading bytes.now) }
+    ensures { AnswersUnless ClassFault.OutOfMemory result (reading bytes.now) }
 {
     match read_parts(alloc, bytes) {
         Ok(parts) => Ok(ClassFile::new(parts)),
@@ -47,10 +47,11 @@ pub fn read_class<L: Ledger>(
     // What each answer says of the bytes.
     ensures says { Says bytes.now result }
     // A class file is read, unless memory runs out.
-    ensures reads { (parts : PartsOf) → Reads bytes.now parts → AnswersInMemory result (Ok parts) }
+    ensures reads { (parts : PartsOf) → Reads bytes.now parts → AnswersUnless ClassFault.OutOfMemory result (Ok parts) }
     // The first fault is told, unless memory runs out.
-    ensures faults { (fault : Fault) → fault_of bytes.now ≡ Some fault → AnswersInMemory result (Err fault) }
+    ensures faults { (fault : Fault) → fault_of bytes.now ≡ Some fault → AnswersUnless ClassFault.OutOfMemory result (Err fault) }
     ensures steps { OnOk result (steps.new ≡ steps.old + length bytes.now) }
+    ensures refused { OnErr result (steps.new ≡ steps.old) }
 {
     match read_file(alloc, bytes) {
         Ok(class) => {

@@ -1,5 +1,5 @@
 ghost use Rattle.std.specs.Prelude.{◌≡◌, ◌++◌, flat_map, length, IfOk, OnOk, Ok};
-ghost use Rattle.mvm_layout.specs.Answers.{AnswersInMemory};
+ghost use Rattle.mvm_base.specs.Answers.{AnswersUnless};
 ghost use Rattle.mvm_classfile.specs.Reading.{Reads, IsClassFile};
 ghost use Rattle.mvm_classfile.specs.Writing.{u2, u4, written, rebuilt};
 
@@ -53,14 +53,14 @@ pub fn write_class(alloc: Global, class: &ClassFile) -> Result<List<u8>, OutOfMe
     // They read as the class again.
     ensures again { IfOk result (λ bytes. Reads bytes class.now) }
 {
-    let bytes = write_parts(alloc, class.kept_parts())?;
+    let bytes = write_parts(alloc, class.parts())?;
     Ok(List::from_vec(bytes))
 }
 
 /// What reading the written form of these parts answers.
 #[tactic(auto, unfolding(crate::specs::Writing::rebuilt, crate::specs::Writing::fits))]
 fn rebuild(alloc: Global, parts: &Parts) -> Result<ClassFile, ClassFault>
-    ensures { AnswersInMemory result (rebuilt parts.now) }
+    ensures { AnswersUnless ClassFault.OutOfMemory result (rebuilt parts.now) }
 {
     if !lists_fit(alloc, parts)? {
         return Err(ClassFault::Shape(0));
@@ -81,9 +81,9 @@ impl ClassFile {
     /// the written form has 2^32 bytes or more.
     pub fn from_parts(alloc: Global, parts: Parts) -> Result<ClassFile, ClassFault>
         // What reading the written form answers.
-        ensures exact { AnswersInMemory result (rebuilt parts) }
+        ensures exact { AnswersUnless ClassFault.OutOfMemory result (rebuilt parts) }
         // The parts of a class file make it again, unless memory runs out.
-        ensures again { IsClassFile parts → AnswersInMemory result (Ok parts) }
+        ensures again { IsClassFile parts → AnswersUnless ClassFault.OutOfMemory result (Ok parts) }
     {
         rebuild(alloc, &parts)
     }

@@ -10,6 +10,7 @@ use Rattle.mvm_insn.specs.declared.fault.InsnFault.{InsnFault}
 use Rattle.mvm_insn.specs.declared.fault.InsnFault.TheVariants.{Unknown, Unsupported, Switch}
 use Rattle.mvm_insn.specs.declared.parts.Insn.{Insn}
 use Rattle.mvm_insn.specs.declared.parts.Insn.TheVariants.{Plain, Number, Pool, Local, Inc, Jump, Choice, Interface, NewArray, Multi}
+use Rattle.mvm_insn.specs.declared.opcodes.TheConstants as jvm
 use Rattle.mvm_insn.specs.declared.parts.At.{At}
 use Rattle.mvm_insn.specs.declared.shapes.Shape.{Shape}
 use Rattle.mvm_insn.specs.declared.shapes.Shape.TheVariants.{Alone, ByteNumber, ShortNumber, BytePool, ShortPool, ByteLocal, Increment, ShortJump, LongJump, Table, Lookup, Invocation, Items, Dimensions, Widened, Foreign, Absent}
@@ -69,8 +70,8 @@ dimensions p = number 2 p >>= λ n. number 1 n.1 >>= λ dims. Ok (Multi n.0 dims
 unfoldable pub widened_by : ℕ → Place → Read
 widened_by op p =
     if names_local op then short_local op p else (
-    if op == 0x84 then wide_increment p else (
-    if op == 0x17 || op == 0x18 || op == 0x38 || op == 0x39 || op == 0xA9 then Err (Unsupported op) else
+    if op == jvm.IINC then wide_increment p else (
+    if op == jvm.FLOAD || op == jvm.DLOAD || op == jvm.FSTORE || op == jvm.DSTORE || op == jvm.RET then Err (Unsupported op) else
     Err (Unknown op)))
 
 -- wide

@@ -9,6 +9,7 @@
 mod choice;
 mod decode;
 mod fault;
+pub mod opcodes;
 mod parts;
 mod read;
 mod rows;

@@ -5,6 +5,7 @@ ghost use Rattle.mvm_insn.specs.Readers.{number, signed, bytes};
 ghost use Rattle.mvm_insn.specs.Insns.{byte_number, short_number, byte_pool, short_pool, byte_local, short_local, increment, wide_increment, short_jump, long_jump, invocation, items, dimensions, widened_by, widened};
 
 use crate::fault::InsnFault;
+use crate::opcodes;
 use crate::parts::Insn;
 use mvm_base::Cursor;
 
@@ -180,9 +181,16 @@ fn widened_by<'a>(op: u8, cursor: &mut Cursor<'a>) -> Result<Insn<'a>, InsnFault
     ensures { Gives result (widened_by op cursor.old) cursor.new }
 {
     match op {
-        0x15 | 0x16 | 0x19 | 0x36 | 0x37 | 0x3a => short_local(op, cursor),
-        0x84 => wide_increment(cursor),
-        0x17 | 0x18 | 0x38 | 0x39 | 0xa9 => Err(InsnFault::Unsupported(op)),
+        opcodes::ILOAD
+        | opcodes::LLOAD
+        | opcodes::ALOAD
+        | opcodes::ISTORE
+        | opcodes::LSTORE
+        | opcodes::ASTORE => short_local(op, cursor),
+        opcodes::IINC => wide_increment(cursor),
+        opcodes::FLOAD | opcodes::DLOAD | opcodes::FSTORE | opcodes::DSTORE | opcodes::RET => Err(
+            InsnFault::Unsupported(op),
+        ),
         _ => Err(InsnFault::Unknown(op)),
     }
 }

@@ -1,6 +1,8 @@
 ghost use Rattle.std.specs.Prelude.{◌≡◌};
 ghost use Rattle.mvm_insn.specs.Shapes.{moves, computes, others, float_moves, float_computes, float_others, rare, behind, shape_of};
 
+use crate::opcodes::*;
+
 /// What stands behind an opcode (JVM Specification 6.5).
 #[derive(Clone, Copy, Debug, PartialEq, Eq)]
 pub(crate) enum Shape {
@@ -30,13 +32,13 @@ fn moves(op: u8) -> bool
     ensures { result ≡ moves op }
 {
     match op {
-        0x00..=0x0a
-        | 0x1a..=0x21
-        | 0x2a..=0x2f
-        | 0x32..=0x35
-        | 0x3b..=0x42
-        | 0x4b..=0x50
-        | 0x53..=0x56 => true,
+        NOP..=LCONST_1
+        | ILOAD_0..=LLOAD_3
+        | ALOAD_0..=LALOAD
+        | AALOAD..=SALOAD
+        | ISTORE_0..=LSTORE_3
+        | ASTORE_0..=LASTORE
+        | AASTORE..=SASTORE => true,
         _ => false,
     }
 }
@@ -46,13 +48,13 @@ fn computes(op: u8) -> bool
     ensures { result ≡ computes op }
 {
     match op {
-        0x57..=0x61
-        | 0x64..=0x65
-        | 0x68..=0x69
-        | 0x6c..=0x6d
-        | 0x70..=0x71
-        | 0x74..=0x75
-        | 0x78..=0x83 => true,
+        POP..=LADD
+        | ISUB..=LSUB
+        | IMUL..=LMUL
+        | IDIV..=LDIV
+        | IREM..=LREM
+        | INEG..=LNEG
+        | ISHL..=LXOR => true,
         _ => false,
     }
 }
@@ -62,7 +64,13 @@ fn others(op: u8) -> bool
     ensures { result ≡ others op }
 {
     match op {
-        0x85 | 0x88 | 0x91..=0x94 | 0xac..=0xad | 0xb0..=0xb1 | 0xbe..=0xbf | 0xc2..=0xc3 => true,
+        I2L
+        | L2I
+        | I2B..=LCMP
+        | IRETURN..=LRETURN
+        | ARETURN..=RETURN
+        | ARRAYLENGTH..=ATHROW
+        | MONITORENTER..=MONITOREXIT => true,
         _ => false,
     }
 }
@@ -72,13 +80,13 @@ fn float_moves(op: u8) -> bool
     ensures { result ≡ float_moves op }
 {
     match op {
-        0x0b..=0x0f
-        | 0x17..=0x18
-        | 0x22..=0x29
-        | 0x30..=0x31
-        | 0x38..=0x39
-        | 0x43..=0x4a
-        | 0x51..=0x52 => true,
+        FCONST_0..=DCONST_1
+        | FLOAD..=DLOAD
+        | FLOAD_0..=DLOAD_3
+        | FALOAD..=DALOAD
+        | FSTORE..=DSTORE
+        | FSTORE_0..=DSTORE_3
+        | FASTORE..=DASTORE => true,
         _ => false,
     }
 }
@@ -88,13 +96,13 @@ fn float_computes(op: u8) -> bool
     ensures { result ≡ float_computes op }
 {
     match op {
-        0x62..=0x63
-        | 0x66..=0x67
-        | 0x6a..=0x6b
-        | 0x6e..=0x6f
-        | 0x72..=0x73
-        | 0x76..=0x77
-        | 0x86..=0x87 => true,
+        FADD..=DADD
+        | FSUB..=DSUB
+        | FMUL..=DMUL
+        | FDIV..=DDIV
+        | FREM..=DREM
+        | FNEG..=DNEG
+        | I2F..=I2D => true,
         _ => false,
     }
 }
@@ -104,7 +112,7 @@ fn float_others(op: u8) -> bool
     ensures { result ≡ float_others op }
 {
     match op {
-        0x89..=0x90 | 0x95..=0x98 | 0xa8..=0xa9 | 0xae..=0xaf | 0xba | 0xc9 => true,
+        L2F..=D2F | FCMPL..=DCMPG | JSR..=RET | FRETURN..=DRETURN | INVOKEDYNAMIC | JSR_W => true,
         _ => false,
     }
 }
@@ -114,13 +122,13 @@ fn rare(op: u8) -> Shape
     ensures { result ≡ rare op }
 {
     match op {
-        0xaa => Shape::Table,
-        0xab => Shape::Lookup,
-        0xb9 => Shape::Invocation,
-        0xbc => Shape::Items,
-        0xc4 => Shape::Widened,
-        0xc5 => Shape::Dimensions,
-        0xc8 => Shape::LongJump,
+        TABLESWITCH => Shape::Table,
+        LOOKUPSWITCH => Shape::Lookup,
+        INVOKEINTERFACE => Shape::Invocation,
+        NEWARRAY => Shape::Items,
+        WIDE => Shape::Widened,
+        MULTIANEWARRAY => Shape::Dimensions,
+        GOTO_W => Shape::LongJump,
         _ => Shape::Absent,
     }
 }
@@ -130,13 +138,14 @@ fn behind(op: u8) -> Shape
     ensures { result ≡ behind op }
 {
     match op {
-        0x10 => Shape::ByteNumber,
-        0x11 => Shape::ShortNumber,
-        0x12 => Shape::BytePool,
-        0x15 | 0x16 | 0x19 | 0x36 | 0x37 | 0x3a => Shape::ByteLocal,
-        0x84 => Shape::Increment,
-        0x99..=0xa7 | 0xc6 | 0xc7 => Shape::ShortJump,
-        0x13 | 0x14 | 0xb2..=0xb8 | 0xbb | 0xbd | 0xc0 | 0xc1 => Shape::ShortPool,
+        BIPUSH => Shape::ByteNumber,
+        SIPUSH => Shape::ShortNumber,
+        LDC => Shape::BytePool,
+        ILOAD | LLOAD | ALOAD | ISTORE | LSTORE | ASTORE => Shape::ByteLocal,
+        IINC => Shape::Increment,
+        IFEQ..=GOTO | IFNULL | IFNONNULL => Shape::ShortJump,
+        LDC_W | LDC2_W | GETSTATIC..=INVOKESTATIC | NEW | ANEWARRAY | CHECKCAST | INSTANCEOF =>
+            Shape::ShortPool,
         _ => rare(op),
     }
 }

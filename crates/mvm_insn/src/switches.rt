@@ -9,31 +9,17 @@ use crate::read::{s4, u4};
 use crate::rows::{Lookup, Table, rises};
 use mvm_base::Cursor;
 
-/// The fault of wanting 2^32 bytes or more, which no cursor has: its place behind them would be beyond 2^32.
-fn too_many(n: u64, cursor: &mut Cursor) -> InsnFault
-    requires { 2 ^ 32 ≤ n }
-    ensures { bytes n cursor.old ≡ Err result }
-{
-    match cursor.bytes(0xffff_ffff) {
-        Ok(_) => match cursor.u1() {
-            Ok(_) => {
-                let _place = cursor.place();
-                InsnFault::OffEnd
-            }
-            Err(_) => InsnFault::OffEnd,
-        },
-        Err(_) => InsnFault::OffEnd,
-    }
-}
-
 /// The next `n` bytes.
+#[tactic(auto, using(crate::proofs::Runs::short))]
 fn text<'a>(n: u64, cursor: &mut Cursor<'a>) -> Result<&'a [u8], InsnFault>
     ensures len { IfOk result (λ x. length x.now ≡ n) }
     ensures short { IfOk result (λ x. n < 2 ^ 32) }
     ensures takes { MatchResult result (λ x. bytes n cursor.old ≡ Ok (x.now, cursor.new)) (λ fault. bytes n cursor.old ≡ Err fault) }
 {
     if n >= 0x1_0000_0000 {
-        return Err(too_many(n, cursor));
+        // No cursor has so many bytes: its place behind them would be beyond 2^32.
+        let _place = cursor.place();
+        return Err(InsnFault::OffEnd);
     }
     match cursor.bytes(n as u32) {
         Ok(text) => Ok(text),

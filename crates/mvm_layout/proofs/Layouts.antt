@@ -4,14 +4,14 @@ use Rattle.std.specs.Int.{w32, w64, cast_signed}
 use Rattle.std.proofs.lemmas.Bool.Decides.{nat_tests}
 use Rattle.mvm_base.specs.Answers.{◌>>=◌}
 use Rattle.mvm_base.specs.Place.{Place}
-use Rattle.mvm_layout.specs.Answers.{AnswersInMemory}
+use Rattle.mvm_base.specs.Answers.{AnswersUnless}
 use Rattle.mvm_layout.specs.Infos.{AttributeParts}
 use Rattle.mvm_layout.specs.Format.{Format, bytes, number, followed, standing, if_passing}
 use Rattle.mvm_layout.specs.Text.{text_of}
 use Rattle.mvm_layout.specs.Entries.{second, text, index_of, indices_of, constant, reference, is_wide, tagged, item, takes_two, entry, items, pool}
 use Rattle.mvm_layout.specs.Layout.{content, attribute_of, attribute, attributes, member_of, member, members, interfaces, magic, major, body, info_of, layout, ended, laid, row_of, row, rows, instructions, code_of, code, read_whole, code_laid, code_in}
 use Rattle.mvm_layout.specs.declared.fault.ClassFault.{ClassFault}
-use Rattle.mvm_layout.specs.declared.fault.ClassFault.TheVariants.{Pool, Trailing}
+use Rattle.mvm_layout.specs.declared.fault.ClassFault.TheVariants.{Pool, Trailing, OutOfMemory}
 use Rattle.mvm_layout.specs.declared.info.ClassInfo.{ClassInfo}
 use Rattle.mvm_layout.specs.declared.info.CodeInfo.{CodeInfo}
 use Rattle.mvm_layout.specs.declared.parts.Item.{Item}
@@ -50,7 +50,7 @@ reference-exact index tag =
     (choose-exact _ _ _ (index_of-exact MethodType)
     (choose-exact _ _ _ (indices_of-exact InvokeDynamic) (refused-exact (Pool index))))))))))
 
-tagged-exact : (index : ℕ) (is_last : Bool) (tag : ℕ) → Exact (tagged index is_last tag)
+pub tagged-exact : (index : ℕ) (is_last : Bool) (tag : ℕ) → Exact (tagged index is_last tag)
 unfolding tagged
 tagged-exact index is_last tag =
     choose-exact (tag == 1) _ _ (mapped-exact Utf8 (text index) (text-exact index))
@@ -61,53 +61,53 @@ item-exact : (index : ℕ) (is_last : Bool) → Exact (item index is_last)
 unfolding item
 item-exact index is_last = mapped-exact second _ (followed-exact (number 1) (tagged index is_last) (number-exact 1) (tagged-exact index is_last))
 
-entry-exact : (is_upper : Bool) (index : ℕ) (is_last : Bool) → Exact (entry is_upper index is_last)
+pub entry-exact : (is_upper : Bool) (index : ℕ) (is_last : Bool) → Exact (entry is_upper index is_last)
 entry-exact true index is_last = given-exact Upper
 entry-exact false index is_last = item-exact index is_last
 
-items-exact : (is_upper : Bool) (index n : ℕ) → Exact (items is_upper index n)
+pub items-exact : (is_upper : Bool) (index n : ℕ) → Exact (items is_upper index n)
 items-exact is_upper index zero = given-exact []
 items-exact is_upper index (suc n) =
     mapped-exact (λ (x : Item × List Item). x.0 ∷ x.1) _
     (followed-exact (entry is_upper index (n == 0)) (λ x. items (takes_two x) (index + 1) n) (entry-exact is_upper index (n == 0)) (λ x. items-exact (takes_two x) (index + 1) n))
 
-pool-exact : Exact pool
+pub pool-exact : Exact pool
 unfolding pool
 pool-exact = mapped-exact second _ (followed-exact _ (λ count. items false 1 (count - 1)) (passing-exact _ _ (number 2) (number-exact 2)) (λ count. items-exact false 1 (count - 1)))
 
 -- ---- what stands behind it
 
-content-exact : Exact content
+pub content-exact : Exact content
 content-exact = mapped-exact second _ (followed-exact (number 4) bytes (number-exact 4) bytes-exact)
 
-attribute-exact : Exact attribute
+pub attribute-exact : Exact attribute
 unfolding attribute
 attribute-exact = mapped-exact attribute_of _ (standing-exact _ (followed-exact (number 2) (λ name. content) (number-exact 2) (λ name. content-exact)))
 
-attributes-exact : Exact attributes
+pub attributes-exact : Exact attributes
 unfolding attributes
 attributes-exact = counted-exact attribute attribute-exact
 
-member-exact : Exact member
+pub member-exact : Exact member
 unfolding member
 member-exact = mapped-exact member_of _ (standing-exact _
     (followed-exact (number 2) _ (number-exact 2) (λ flags.
     followed-exact (number 2) _ (number-exact 2) (λ name.
     followed-exact (number 2) _ (number-exact 2) (λ desc. attributes-exact)))))
 
-members-exact : Exact members
+pub members-exact : Exact members
 unfolding members
 members-exact = counted-exact member member-exact
 
-interfaces-exact : Exact interfaces
+pub interfaces-exact : Exact interfaces
 unfolding interfaces
 interfaces-exact = counted-exact (number 2) (number-exact 2)
 
-magic-exact : Exact magic
+pub magic-exact : Exact magic
 unfolding magic
 magic-exact = passing-exact _ _ (number 4) (number-exact 4)
 
-major-exact : Exact major
+pub major-exact : Exact major
 unfolding major
 major-exact = passing-exact _ _ (number 2) (number-exact 2)
 
@@ -205,9 +205,9 @@ code_in-complete attribute x s = ap read_whole (ended-complete code (attribute.a
 
 -- ---- what an answer says of the bytes
 
-pub found : (text : List ℕ) (answer : Result ClassInfo ClassFault) → AnswersInMemory answer (laid text) → IfOk answer (λ info. layout.spells info 0 text)
+pub found : (text : List ℕ) (answer : Result ClassInfo ClassFault) → AnswersUnless OutOfMemory answer (laid text) → IfOk answer (λ info. layout.spells info 0 text)
 found text (Ok info) h = laid-sound text info h
 found text (Err fault) h = tt
 
-pub only : (text : List ℕ) (answer : Result ClassInfo ClassFault) (info : ClassInfo) → AnswersInMemory answer (laid text) → layout.spells info 0 text → AnswersInMemory answer (Ok info)
-only text answer info h s = subst (λ (r : Result ClassInfo ClassFault). AnswersInMemory answer r) (laid-complete text info s) h
+pub only : (text : List ℕ) (answer : Result ClassInfo ClassFault) (info : ClassInfo) → AnswersUnless OutOfMemory answer (laid text) → layout.spells info 0 text → AnswersUnless OutOfMemory answer (Ok info)
+only text answer info h s = subst (λ (r : Result ClassInfo ClassFault). AnswersUnless OutOfMemory answer r) (laid-complete text info s) h

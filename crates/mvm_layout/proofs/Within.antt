@@ -6,13 +6,13 @@ use Rattle.std.proofs.lemmas.List.{length-append}
 use Rattle.std.proofs.lemmas.List.Elements.{All-nil, All-cons}
 use Rattle.byteorder.specs.Numbers.{big_from-lt}
 use Rattle.mvm_base.specs.ModifiedUtf8.{is_one_byte, spelled, spelled_all}
-use Rattle.mvm_layout.specs.Answers.{AnswersInMemory}
+use Rattle.mvm_base.specs.Answers.{AnswersUnless}
 use Rattle.mvm_layout.specs.Bounds.{HasFewUnits, StandsWithin, IsWithinFile}
 use Rattle.mvm_layout.specs.Format.{Format, number, followed, mapped, choose, refused, if_passing, spells_times, counted}
 use Rattle.mvm_layout.specs.Entries.{text, index_of, indices_of, constant, reference, is_wide, tagged, item, takes_two, entry, items, pool}
 use Rattle.mvm_layout.specs.Layout.{attribute, attributes, member, members, interfaces, Body, body, layout, laid}
 use Rattle.mvm_layout.specs.declared.fault.ClassFault.{ClassFault}
-use Rattle.mvm_layout.specs.declared.fault.ClassFault.TheVariants.{Pool}
+use Rattle.mvm_layout.specs.declared.fault.ClassFault.TheVariants.{Pool, OutOfMemory}
 use Rattle.mvm_layout.specs.declared.info.MemberInfo.{MemberInfo}
 use Rattle.mvm_layout.specs.declared.info.ClassInfo.{ClassInfo}
 use Rattle.mvm_layout.specs.declared.parts.Item.{Item}
@@ -43,7 +43,7 @@ left text s t e b = front s t (subst AreBytes e b)
 right : (text s t : List ℕ) → text ≡ s ++ t → AreBytes text → AreBytes t
 right text s t e b = back s t (subst AreBytes e b)
 
-parted : (text s t : List ℕ) → text ≡ s ++ t → length text ≡ length s + length t
+pub parted : (text s t : List ℕ) → text ≡ s ++ t → length text ≡ length s + length t
 parted text s t e = ap length e ∙ length-append s t
 
 -- ---- texts
@@ -221,7 +221,7 @@ times_two (suc n) (x ∷ xs) at t s =
     omega (arith, whole, more, s.2.0)
 
 -- an interface takes 2 bytes, and so does their count
-interfaces_two : (xs : List ℕ) (at : ℕ) (t : List ℕ) → interfaces.spells xs at t → length t ≡ 2 + 2 * length xs
+pub interfaces_two : (xs : List ℕ) (at : ℕ) (t : List ℕ) → interfaces.spells xs at t → length t ≡ 2 + 2 * length xs
 unfolding interfaces
 interfaces_two xs at t s =
     let h = s.1 in
@@ -276,6 +276,6 @@ layout_within text info bytes few s =
     subst IsWithinFile s.2 (record { header = rest.header; pool = few_entries; texts = entries.2.texts; fields = rest.fields; methods = rest.methods })
 
 -- what an answer says of the places and counts
-pub within : (text : List ℕ) (answer : Result ClassInfo ClassFault) → AreBytes text → length text < 2 ^ 32 → AnswersInMemory answer (laid text) → IfOk answer IsWithinFile
+pub within : (text : List ℕ) (answer : Result ClassInfo ClassFault) → AreBytes text → length text < 2 ^ 32 → AnswersUnless OutOfMemory answer (laid text) → IfOk answer IsWithinFile
 within text (Ok info) bytes few h = layout_within text info bytes few (laid-sound text info h)
 within text (Err fault) bytes few h = tt

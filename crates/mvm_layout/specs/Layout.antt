@@ -18,7 +18,7 @@ abbrev pub content : Format (List ℕ)
 content = mapped second (followed (number 4) bytes)
 
 abbrev pub attribute_of : ℕ × (ℕ × List ℕ) → AttributeParts
-attribute_of x = record { at = x.0; name = x.1.0; content = x.1.1 }
+attribute_of (at, (name, content)) = record { at = at; name = name; content = content }
 
 unfoldable pub attribute : Format AttributeParts
 attribute = mapped attribute_of (standing (followed (number 2) (λ name. content)))
@@ -27,7 +27,7 @@ unfoldable pub attributes : Format (List AttributeParts)
 attributes = counted attribute
 
 abbrev pub member_of : ℕ × (ℕ × (ℕ × (ℕ × List AttributeParts))) → MemberInfo
-member_of x = record { at = x.0; flags = x.1.0; name = x.1.1.0; desc = x.1.1.1.0; attributes = x.1.1.1.1 }
+member_of (at, (flags, (name, (desc, attributes)))) = record { at = at; flags = flags; name = name; desc = desc; attributes = attributes }
 
 -- a field or a method
 unfoldable pub member : Format MemberInfo
@@ -64,18 +64,18 @@ body =
     followed members (λ methods. attributes))))))
 
 abbrev pub info_of : ℕ × (ℕ × (ℕ × (List Item × Body))) → ClassInfo
-info_of x = record {
-  minor = x.1.0;
-  major = x.1.1.0;
-  pool = x.1.1.1.0;
-  at = x.1.1.1.1.0.0;
-  flags = x.1.1.1.1.0.1;
-  this_class = x.1.1.1.1.1.0;
-  super_class = x.1.1.1.1.1.1.0;
-  interfaces = x.1.1.1.1.1.1.1.0;
-  fields = x.1.1.1.1.1.1.1.1.0;
-  methods = x.1.1.1.1.1.1.1.1.1.0;
-  attributes = x.1.1.1.1.1.1.1.1.1.1;
+info_of (_, (minor, (major, (pool, ((at, flags), (this_class, (super_class, (interfaces, (fields, (methods, attributes)))))))))) = record {
+  minor = minor;
+  major = major;
+  pool = pool;
+  at = at;
+  flags = flags;
+  this_class = this_class;
+  super_class = super_class;
+  interfaces = interfaces;
+  fields = fields;
+  methods = methods;
+  attributes = attributes;
 }
 
 unfoldable pub layout : Format ClassInfo
@@ -97,7 +97,7 @@ laid text = layout.read (record { at = 0; rest = text }) >>= ended
 -- ---- the content of a `Code` attribute (4.7.3)
 
 abbrev pub row_of : ℕ × (ℕ × (ℕ × ℕ)) → Row
-row_of x = record { start = x.0; end = x.1.0; handler = x.1.1.0; catch_class = x.1.1.1 }
+row_of (start, (end, (handler, catch_class))) = record { start = start; end = end; handler = handler; catch_class = catch_class }
 
 unfoldable pub row : Format Row
 row =
@@ -114,7 +114,7 @@ unfoldable pub instructions : Format (List ℕ)
 instructions = passing (λ text. nat_le 1 (length text) && nat_le (length text) 65535) (λ text. Shape 0) content
 
 abbrev pub code_of : ℕ × (ℕ × (List ℕ × (List Row × List AttributeParts))) → CodeInfo
-code_of x = record { code = record { max_stack = x.0; max_locals = x.1.0; bytes = x.1.1.0; rows = x.1.1.1.0 }; attributes = x.1.1.1.1 }
+code_of (max_stack, (max_locals, (bytes, (rows, attributes)))) = record { code = record { max_stack = max_stack; max_locals = max_locals; bytes = bytes; rows = rows }; attributes = attributes }
 
 unfoldable pub code : Format CodeInfo
 code =

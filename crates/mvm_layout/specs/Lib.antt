@@ -1,8 +1,10 @@
 pub mod Infos
-pub mod Answers
+pub mod Flags
+pub mod Pool
 pub mod Format
 pub mod Text
 pub mod Entries
 pub mod Layout
 pub mod Bounds
+pub mod Ascending
 pub use Rattle.mvm_base.specs.Place

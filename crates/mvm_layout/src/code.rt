@@ -1,6 +1,6 @@
 ghost use Rattle.std.specs.Prelude.{◌≡◌};
 ghost use Rattle.mvm_base.specs.Answers.{Gives};
-ghost use Rattle.mvm_layout.specs.Answers.{GivesInMemory};
+ghost use Rattle.mvm_base.specs.Answers.{GivesUnless};
 ghost use Rattle.mvm_layout.specs.Format.{Format, times};
 ghost use Rattle.mvm_layout.specs.Layout.{row, rows, instructions, code};
 
@@ -29,7 +29,7 @@ fn row(cursor: &mut Cursor) -> Result<Row, ClassFault>
 }
 
 fn row_list(alloc: Global, cursor: &mut Cursor, count: u16) -> Result<List<Row>, ClassFault>
-    ensures { GivesInMemory result ((times count row).read cursor.old) cursor.new }
+    ensures { GivesUnless ClassFault.OutOfMemory result ((times count row).read cursor.old) cursor.new }
 {
     let mut all = List::new(alloc);
     for i in 0..count {
@@ -41,7 +41,7 @@ fn row_list(alloc: Global, cursor: &mut Cursor, count: u16) -> Result<List<Row>,
 
 #[tactic(auto, unfolding(crate::specs::Layout::rows))]
 fn rows(alloc: Global, cursor: &mut Cursor) -> Result<List<Row>, ClassFault>
-    ensures { GivesInMemory result (rows.read cursor.old) cursor.new }
+    ensures { GivesUnless ClassFault.OutOfMemory result (rows.read cursor.old) cursor.new }
 {
     let count = u2(cursor)?;
     row_list(alloc, cursor, count)
@@ -49,7 +49,7 @@ fn rows(alloc: Global, cursor: &mut Cursor) -> Result<List<Row>, ClassFault>
 
 #[tactic(auto, unfolding(crate::specs::Layout::instructions))]
 fn instructions(alloc: Global, cursor: &mut Cursor) -> Result<List<u8>, ClassFault>
-    ensures { GivesInMemory result (instructions.read cursor.old) cursor.new }
+    ensures { GivesUnless ClassFault.OutOfMemory result (instructions.read cursor.old) cursor.new }
 {
     let bytes = content(cursor)?;
     if bytes.is_empty() || bytes.len() > 65535 {
@@ -61,7 +61,7 @@ fn instructions(alloc: Global, cursor: &mut Cursor) -> Result<List<u8>, ClassFau
 /// The code that stands at the place of the cursor, which is left behind it.
 #[tactic(auto, unfolding(crate::specs::Layout::code))]
 pub(crate) fn code<'a>(alloc: Global, cursor: &mut Cursor<'a>) -> Result<CodeInfo<'a>, ClassFault>
-    ensures { GivesInMemory result (code.read cursor.old) cursor.new }
+    ensures { GivesUnless ClassFault.OutOfMemory result (code.read cursor.old) cursor.new }
 {
     let max_stack = u2(cursor)?;
     let max_locals = u2(cursor)?;

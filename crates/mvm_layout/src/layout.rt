@@ -1,13 +1,13 @@
 ghost use Rattle.std.specs.Prelude.{◌≡◌, ◌+◌, length, MatchResult, OnOk, IfOk, Ok, Err};
 ghost use Rattle.mvm_base.specs.Answers.{Gives};
-ghost use Rattle.mvm_layout.specs.Answers.{GivesInMemory};
+ghost use Rattle.mvm_base.specs.Answers.{GivesUnless};
 ghost use Rattle.mvm_layout.specs.Format.{Format, number, times};
 ghost use Rattle.mvm_layout.specs.Layout.{content, attribute, attributes, member, members, interfaces, magic, major, layout};
 
 use crate::fault::ClassFault;
 use crate::info::{AttributeInfo, ClassInfo, MemberInfo};
 use crate::numbers::{run, u2, u4};
-use crate::pool::pool;
+use crate::entries::pool;
 use mvm_base::{Cursor, List};
 use std::alloc::Global;
 
@@ -37,7 +37,7 @@ fn attribute_list<'a>(
     cursor: &mut Cursor<'a>,
     count: u16,
 ) -> Result<List<AttributeInfo<'a>>, ClassFault>
-    ensures { GivesInMemory result ((times count attribute).read cursor.old) cursor.new }
+    ensures { GivesUnless ClassFault.OutOfMemory result ((times count attribute).read cursor.old) cursor.new }
 {
     let mut all = List::new(alloc);
     for i in 0..count {
@@ -53,7 +53,7 @@ pub(crate) fn attributes<'a>(
     alloc: Global,
     cursor: &mut Cursor<'a>,
 ) -> Result<List<AttributeInfo<'a>>, ClassFault>
-    ensures { GivesInMemory result (attributes.read cursor.old) cursor.new }
+    ensures { GivesUnless ClassFault.OutOfMemory result (attributes.read cursor.old) cursor.new }
 {
     let count = u2(cursor)?;
     attribute_list(alloc, cursor, count)
@@ -61,7 +61,7 @@ pub(crate) fn attributes<'a>(
 
 #[tactic(auto, unfolding(crate::specs::Layout::member))]
 fn member<'a>(alloc: Global, cursor: &mut Cursor<'a>) -> Result<MemberInfo<'a>, ClassFault>
-    ensures { GivesInMemory result (member.read cursor.old) cursor.new }
+    ensures { GivesUnless ClassFault.OutOfMemory result (member.read cursor.old) cursor.new }
 {
     let at = cursor.place();
     let flags = u2(cursor)?;
@@ -82,7 +82,7 @@ fn member_list<'a>(
     cursor: &mut Cursor<'a>,
     count: u16,
 ) -> Result<List<MemberInfo<'a>>, ClassFault>
-    ensures { GivesInMemory result ((times count member).read cursor.old) cursor.new }
+    ensures { GivesUnless ClassFault.OutOfMemory result ((times count member).read cursor.old) cursor.new }
 {
     let mut all = List::new(alloc);
     for i in 0..count {
@@ -94,14 +94,14 @@ fn member_list<'a>(
 
 #[tactic(auto, unfolding(crate::specs::Layout::members))]
 fn members<'a>(alloc: Global, cursor: &mut Cursor<'a>) -> Result<List<MemberInfo<'a>>, ClassFault>
-    ensures { GivesInMemory result (members.read cursor.old) cursor.new }
+    ensures { GivesUnless ClassFault.OutOfMemory result (members.read cursor.old) cursor.new }
 {
     let count = u2(cursor)?;
     member_list(alloc, cursor, count)
 }
 
 fn index_list(alloc: Global, cursor: &mut Cursor, count: u16) -> Result<List<u16>, ClassFault>
-    ensures { GivesInMemory result ((times count (number 2)).read cursor.old) cursor.new }
+    ensures { GivesUnless ClassFault.OutOfMemory result ((times count (number 2)).read cursor.old) cursor.new }
 {
     let mut all = List::new(alloc);
     for i in 0..count {
@@ -113,7 +113,7 @@ fn index_list(alloc: Global, cursor: &mut Cursor, count: u16) -> Result<List<u16
 
 #[tactic(auto, unfolding(crate::specs::Layout::interfaces))]
 fn interfaces(alloc: Global, cursor: &mut Cursor) -> Result<List<u16>, ClassFault>
-    ensures { GivesInMemory result (interfaces.read cursor.old) cursor.new }
+    ensures { GivesUnless ClassFault.OutOfMemory result (interfaces.read cursor.old) cursor.new }
 {
     let count = u2(cursor)?;
     index_list(alloc, cursor, count)
@@ -147,7 +147,7 @@ pub(crate) fn layout<'a>(
     alloc: Global,
     cursor: &mut Cursor<'a>,
 ) -> Result<ClassInfo<'a>, ClassFault>
-    ensures { GivesInMemory result (layout.read cursor.old) cursor.new }
+    ensures { GivesUnless ClassFault.OutOfMemory result (layout.read cursor.old) cursor.new }
 {
     magic(cursor)?;
     let minor = u2(cursor)?;

@@ -7,15 +7,19 @@
 #![tactic(auto)]
 
 mod code;
+mod entries;
 mod fault;
+pub mod flags;
 mod info;
+mod laws;
 mod layout;
 mod numbers;
 mod parts;
-mod pool;
+pub mod pool;
 mod read;
 
 pub use fault::ClassFault;
+pub use laws::layout_law;
 pub use info::{AttributeInfo, ClassInfo, CodeInfo, MemberInfo};
 pub use parts::{Code, Item, Member, Parts, Row};
 pub use read::{read_code, read_layout};

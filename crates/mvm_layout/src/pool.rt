@@ -1,189 +1,154 @@
-ghost use Rattle.std.specs.Prelude.{◌≡◌, ◌<◌, ◌-◌, ◌^◌, length, false, IfOk};
-ghost use Rattle.mvm_layout.specs.Answers.{GivesInMemory};
-ghost use Rattle.mvm_layout.specs.Format.{Format};
-ghost use Rattle.mvm_layout.specs.Text.{text_of};
-ghost use Rattle.mvm_layout.specs.Entries.{text, constant, reference, tagged, item, takes_two, entry, items, pool};
+//! The constant pool by index (JVM Specification 4.4). No call takes memory.
+ghost use Rattle.std.specs.Prelude.{◌≡◌};
+ghost use Rattle.std.specs.Option.{option_copied};
+ghost use Rattle.std.specs.Str.{bytes_eq};
+ghost use Rattle.mvm_layout.specs.Pool.{entry, text, class_name, is_text, is_utf8, is_class, is_field, is_method, is_interface_method, is_long, is_loadable, is_name_and_type, member, name_and_type};
 
-use crate::fault::ClassFault;
-use crate::numbers::{run, u1, u2, u4, u8};
 use crate::parts::Item;
-use mvm_base::{Cursor, List, Name, OutOfMemory, Utf8Fault, decode_mutf8};
-use std::alloc::Global;
+use mvm_base::{List, Name};
 
-fn text_of(alloc: Global, bytes: &[u8]) -> Result<Option<Name>, OutOfMemory>
-    requires { length bytes.now < 2 ^ 32 }
-    ensures { IfOk result (λ x. x ≡ text_of bytes.now) }
+/// The entry of an index, which is counted from 1 (JVM Specification 4.1).
+pub fn entry(pool: &List<Item>, index: u16) -> Option<&Item>
+    ensures { option_copied result ≡ entry pool.now index }
 {
-    match decode_mutf8(alloc, bytes) {
-        Ok(name) => Ok(Some(name)),
-        Err(Utf8Fault::Bad(_)) => Ok(None),
-        Err(Utf8Fault::OutOfMemory) => Err(OutOfMemory),
+    if index == 0 {
+        return None;
+    }
+    pool.get(usize::from(index) - 1)
+}
+
+/// The text of an index (4.4.7).
+pub fn text(pool: &List<Item>, index: u16) -> Option<&Name>
+    ensures { option_copied result ≡ text pool.now index }
+{
+    match entry(pool, index) {
+        Some(Item::Utf8(text)) => Some(text),
+        _ => None,
     }
 }
 
-#[tactic(auto, unfolding(crate::specs::Entries::text))]
-fn text(alloc: Global, cursor: &mut Cursor, index: u16) -> Result<Name, ClassFault>
-    ensures { GivesInMemory result ((text index).read cursor.old) cursor.new }
+/// The name of the class of an index (4.4.1).
+pub fn class_name(pool: &List<Item>, index: u16) -> Option<&Name>
+    ensures { option_copied result ≡ class_name pool.now index }
 {
-    let n = u2(cursor)?;
-    let bytes = run(cursor, u32::from(n))?;
-    match text_of(alloc, bytes)? {
-        Some(name) => Ok(name),
-        None => Err(ClassFault::Pool(index)),
+    match entry(pool, index) {
+        Some(Item::Class(name)) => text(pool, *name),
+        _ => None,
     }
 }
 
-#[tactic(auto, unfolding(crate::specs::Entries::constant))]
-fn constant(cursor: &mut Cursor, tag: u8) -> Result<Item, ClassFault>
-    ensures { GivesInMemory result ((constant tag).read cursor.old) cursor.new }
+/// Whether units are these letters. It looks at no unit where the lengths differ.
+pub fn same_text(units: &[u16], wanted: &[u8]) -> bool
+    ensures { result ≡ bytes_eq units.now wanted.now }
 {
-    match tag {
-        3 => {
-            let n = u4(cursor)?;
-            Ok(Item::Integer(n.cast_signed()))
+    if units.len() != wanted.len() {
+        return false;
+    }
+    for i in 0..wanted.len() {
+        if units[i] != u16::from(wanted[i]) {
+            return false;
         }
-        4 => {
-            let n = u4(cursor)?;
-            Ok(Item::Float(n))
-        }
-        5 => {
-            let n = u8(cursor)?;
-            Ok(Item::Long(n.cast_signed()))
-        }
-        _ => {
-            let n = u8(cursor)?;
-            Ok(Item::Double(n))
-        }
+    }
+    true
+}
+
+/// Whether an index has a text, and it is this one.
+pub fn is_text(pool: &List<Item>, index: u16, wanted: &[u8]) -> bool
+    ensures { result ≡ is_text wanted.now (text pool.now index) }
+{
+    match text(pool, index) {
+        Some(name) => same_text(name.units(), wanted),
+        None => false,
     }
 }
 
-#[tactic(auto, unfolding(crate::specs::Entries::reference))]
-fn reference(cursor: &mut Cursor, index: u16, tag: u8) -> Result<Item, ClassFault>
-    ensures { GivesInMemory result ((reference index tag).read cursor.old) cursor.new }
+/// Whether an index has a class, and this is its name.
+pub fn is_class_named(pool: &List<Item>, index: u16, wanted: &[u8]) -> bool
+    ensures { result ≡ is_text wanted.now (class_name pool.now index) }
 {
-    match tag {
-        7 => {
-            let name = u2(cursor)?;
-            Ok(Item::Class(name))
-        }
-        8 => {
-            let text = u2(cursor)?;
-            Ok(Item::Str(text))
-        }
-        9 => {
-            let class = u2(cursor)?;
-            let member = u2(cursor)?;
-            Ok(Item::Fieldref(class, member))
-        }
-        10 => {
-            let class = u2(cursor)?;
-            let member = u2(cursor)?;
-            Ok(Item::Methodref(class, member))
-        }
-        11 => {
-            let class = u2(cursor)?;
-            let member = u2(cursor)?;
-            Ok(Item::InterfaceMethodref(class, member))
-        }
-        12 => {
-            let name = u2(cursor)?;
-            let desc = u2(cursor)?;
-            Ok(Item::NameAndType(name, desc))
-        }
-        15 => {
-            let kind = u1(cursor)?;
-            let target = u2(cursor)?;
-            Ok(Item::MethodHandle(kind, target))
-        }
-        16 => {
-            let desc = u2(cursor)?;
-            Ok(Item::MethodType(desc))
-        }
-        18 => {
-            let bootstrap = u2(cursor)?;
-            let member = u2(cursor)?;
-            Ok(Item::InvokeDynamic(bootstrap, member))
-        }
-        _ => Err(ClassFault::Pool(index)),
+    match class_name(pool, index) {
+        Some(name) => same_text(name.units(), wanted),
+        None => false,
     }
 }
 
-#[tactic(auto, unfolding(crate::specs::Entries::tagged))]
-fn tagged(
-    alloc: Global,
-    cursor: &mut Cursor,
-    index: u16,
-    is_last: bool,
-    tag: u8,
-) -> Result<Item, ClassFault>
-    ensures { GivesInMemory result ((tagged index is_last tag).read cursor.old) cursor.new }
+/// Of the field or method of an index: the indices of its class, and of its name and type (4.4.2).
+pub fn member(pool: &List<Item>, index: u16) -> Option<(u16, u16)>
+    ensures { result ≡ member pool.now index }
 {
-    match tag {
-        1 => {
-            let text = text(alloc, cursor, index)?;
-            Ok(Item::Utf8(text))
-        }
-        5 | 6 => {
-            if is_last {
-                return Err(ClassFault::Pool(index));
-            }
-            constant(cursor, tag)
-        }
-        3 | 4 => constant(cursor, tag),
-        _ => reference(cursor, index, tag),
+    match entry(pool, index) {
+        Some(Item::Fieldref(class, member)) => Some((*class, *member)),
+        Some(Item::Methodref(class, member)) => Some((*class, *member)),
+        Some(Item::InterfaceMethodref(class, member)) => Some((*class, *member)),
+        _ => None,
     }
 }
 
-#[tactic(auto, unfolding(crate::specs::Entries::item))]
-fn item(alloc: Global, cursor: &mut Cursor, index: u16, is_last: bool) -> Result<Item, ClassFault>
-    ensures { GivesInMemory result ((item index is_last).read cursor.old) cursor.new }
+/// Of the name and type of an index: the indices of the name, and of the descriptor (4.4.6).
+pub fn name_and_type(pool: &List<Item>, index: u16) -> Option<(u16, u16)>
+    ensures { result ≡ name_and_type pool.now index }
 {
-    let tag = u1(cursor)?;
-    tagged(alloc, cursor, index, is_last, tag)
-}
-
-fn entry(
-    alloc: Global,
-    cursor: &mut Cursor,
-    is_upper: bool,
-    index: u16,
-    is_last: bool,
-) -> Result<Item, ClassFault>
-    ensures { GivesInMemory result ((entry is_upper index is_last).read cursor.old) cursor.new }
-{
-    if is_upper {
-        return Ok(Item::Upper);
+    match entry(pool, index) {
+        Some(Item::NameAndType(name, desc)) => Some((*name, *desc)),
+        _ => None,
     }
-    item(alloc, cursor, index, is_last)
 }
 
-fn takes_two(item: &Item) -> bool
-    ensures { result ≡ takes_two item.now }
+/// Whether an index has a text (4.4.7).
+pub fn is_utf8(pool: &List<Item>, index: u16) -> bool
+    ensures { result ≡ is_utf8 (entry pool.now index) }
 {
-    matches!(item, Item::Long(_) | Item::Double(_))
+    matches!(entry(pool, index), Some(Item::Utf8(_)))
 }
 
-fn items(alloc: Global, cursor: &mut Cursor, count: u16) -> Result<List<Item>, ClassFault>
-    ensures { GivesInMemory result ((items false 1 (count - 1)).read cursor.old) cursor.new }
+/// Whether an index has a class, an interface or an array class (4.4.1).
+pub fn is_class(pool: &List<Item>, index: u16) -> bool
+    ensures { result ≡ is_class (entry pool.now index) }
 {
-    let mut all = List::new(alloc);
-    let mut is_upper = false;
-    for index in 1..count {
-        let one = entry(alloc, cursor, is_upper, index, index == count - 1)?;
-        is_upper = takes_two(&one);
-        all.push(one)?;
-    }
-    Ok(all)
+    matches!(entry(pool, index), Some(Item::Class(_)))
 }
 
-/// The constant pool that stands at the place of the cursor, which is left behind it.
-#[tactic(auto, unfolding(crate::specs::Entries::pool))]
-pub(crate) fn pool(alloc: Global, cursor: &mut Cursor) -> Result<List<Item>, ClassFault>
-    ensures { GivesInMemory result (pool.read cursor.old) cursor.new }
+/// Whether an index has a field (4.4.2).
+pub fn is_field(pool: &List<Item>, index: u16) -> bool
+    ensures { result ≡ is_field (entry pool.now index) }
 {
-    let count = u2(cursor)?;
-    if count < 1 {
-        return Err(ClassFault::Pool(0));
-    }
-    items(alloc, cursor, count)
+    matches!(entry(pool, index), Some(Item::Fieldref(_, _)))
+}
+
+/// Whether an index has a method of a class (4.4.2).
+pub fn is_method(pool: &List<Item>, index: u16) -> bool
+    ensures { result ≡ is_method (entry pool.now index) }
+{
+    matches!(entry(pool, index), Some(Item::Methodref(_, _)))
+}
+
+/// Whether an index has a method of an interface (4.4.2).
+pub fn is_interface_method(pool: &List<Item>, index: u16) -> bool
+    ensures { result ≡ is_interface_method (entry pool.now index) }
+{
+    matches!(entry(pool, index), Some(Item::InterfaceMethodref(_, _)))
+}
+
+/// Whether an index has a long (4.4.5).
+pub fn is_long(pool: &List<Item>, index: u16) -> bool
+    ensures { result ≡ is_long (entry pool.now index) }
+{
+    matches!(entry(pool, index), Some(Item::Long(_)))
+}
+
+/// Whether an index has a name and a descriptor (4.4.6).
+pub fn is_name_and_type(pool: &List<Item>, index: u16) -> bool
+    ensures { result ≡ is_name_and_type (entry pool.now index) }
+{
+    matches!(entry(pool, index), Some(Item::NameAndType(_, _)))
+}
+
+/// Whether an index has what `ldc` pushes in one slot, floats left out: an int, a string or a class (5.1).
+pub fn is_loadable(pool: &List<Item>, index: u16) -> bool
+    ensures { result ≡ is_loadable (entry pool.now index) }
+{
+    matches!(
+        entry(pool, index),
+        Some(Item::Integer(_) | Item::Str(_) | Item::Class(_))
+    )
 }

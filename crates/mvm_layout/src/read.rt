@@ -1,5 +1,5 @@
 ghost use Rattle.std.specs.Prelude.{◌≡◌, ◌<◌, ◌^◌, length, IfOk, Ok};
-ghost use Rattle.mvm_layout.specs.Answers.{AnswersInMemory};
+ghost use Rattle.mvm_base.specs.Answers.{AnswersUnless};
 ghost use Rattle.mvm_layout.specs.Bounds.{IsWithinFile};
 ghost use Rattle.mvm_layout.specs.Format.{Format};
 ghost use Rattle.mvm_layout.specs.Layout.{layout, laid, code_laid, code_in};
@@ -15,7 +15,7 @@ use std::alloc::Global;
 #[tactic(auto, unfolding(crate::specs::Layout::laid))]
 fn laid<'a>(alloc: Global, bytes: &'a [u8]) -> Result<ClassInfo<'a>, ClassFault>
     requires { length bytes.now < 2 ^ 32 }
-    ensures { AnswersInMemory result (laid bytes.now) }
+    ensures { AnswersUnless ClassFault.OutOfMemory result (laid bytes.now) }
 {
     let mut cursor = Cursor::new(bytes);
     let info = layout(alloc, &mut cursor)?;
@@ -29,11 +29,11 @@ fn laid<'a>(alloc: Global, bytes: &'a [u8]) -> Result<ClassInfo<'a>, ClassFault>
 /// takes time and memory in proportion to the bytes.
 pub fn read_layout<'a>(alloc: Global, bytes: &'a [u8]) -> Result<ClassInfo<'a>, ClassFault>
     requires { length bytes.now < 2 ^ 32 }
-    ensures exact { AnswersInMemory result (laid bytes.now) }
+    ensures exact { AnswersUnless ClassFault.OutOfMemory result (laid bytes.now) }
     // What is read is spelled by the bytes, all of them.
     ensures found { IfOk result (λ info. layout.spells info 0 bytes.now) }
     // What the bytes spell is read, unless memory runs out.
-    ensures only { (info : ClassInfoOf) → layout.spells info 0 bytes.now → AnswersInMemory result (Ok info) }
+    ensures only { (info : ClassInfoOf) → layout.spells info 0 bytes.now → AnswersUnless ClassFault.OutOfMemory result (Ok info) }
     // Its places and counts are those of a file.
     ensures within { IfOk result IsWithinFile }
 {
@@ -42,7 +42,7 @@ pub fn read_layout<'a>(alloc: Global, bytes: &'a [u8]) -> Result<ClassInfo<'a>, 
 
 #[tactic(auto, unfolding(crate::specs::Layout::code_laid))]
 fn code_laid<'a>(alloc: Global, attribute: &AttributeInfo<'a>) -> Result<CodeInfo<'a>, ClassFault>
-    ensures { AnswersInMemory result (code_laid attribute.now) }
+    ensures { AnswersUnless ClassFault.OutOfMemory result (code_laid attribute.now) }
 {
     let mut cursor = attribute.cursor();
     let code = code(alloc, &mut cursor)?;

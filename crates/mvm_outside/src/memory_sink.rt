@@ -1,4 +1,4 @@
-ghost use Rattle.std.specs.Prelude.{◌≡◌, [], length, min, IsTrue, IsOk, IsErr, IfOk, Some};
+ghost use Rattle.std.specs.Prelude.{◌≡◌, ◌==◌, ◌&&◌, [], length, min, nat_lt, is_err, IsTrue, IsErr, IfOk, Some, if◌then◌else◌};
 ghost use Rattle.std.specs.Io.{WritesAtMost};
 ghost use Rattle.std.specs.Io.KnownBytes.{WriteAppends};
 ghost use Rattle.mvm_outside.specs.Causes.{HasCause, CountsIdle};
@@ -69,7 +69,9 @@ impl Sink for MemorySink {
         ensures idle { CountsIdle self.old.idle self.new.idle result piece.now }
         ensures fails { IsTrue (is_failing self.old.failing self.old.calls) → IsErr result }
         ensures takes { IfOk result (λ count. count ≡ min (length piece.now) self.old.most) }
-        ensures calm { IsOk result → self.new.faults ≡ self.old.faults }
+        ensures counts { self.new.faults ≡ (if is_err result then next_count self.old.faults else self.old.faults) }
+        ensures idles { IfOk result (λ count. self.new.idle ≡ (if count == 0 && nat_lt 0 (length piece.now) then next_count self.old.idle else self.old.idle)) }
+        ensures awake { IsErr result → self.new.idle ≡ self.old.idle }
         ensures others { self.new ≡ record self.old { taken = self.new.taken; calls = next_count self.old.calls; faults = self.new.faults; idle = self.new.idle } }
     {
         let call = self.calls;

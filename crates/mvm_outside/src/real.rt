@@ -1,4 +1,8 @@
-ghost use Rattle.std.specs.Prelude.{◌≡◌, ◌≤◌, length, IfOk, IfSome, None};
+ghost use Rattle.std.specs.Prelude.{◌≡◌, ◌≤◌, ◌==◌, ◌&&◌, length, nat_lt, is_err, IsErr, IfOk, IfSome, None, if◌then◌else◌};
+ghost use Rattle.std.specs.Io.{ReadsAtMost, WritesAtMost};
+ghost use Rattle.std.specs.Io.KnownBytes.{ReadConsumes, WriteAppends};
+ghost use Rattle.mvm_outside.specs.Causes.{HasCause, CountsIdle};
+ghost use Rattle.mvm_outside.specs.Memory.{next_count};
 
 use crate::traits::{Failed, MOST_FILE_BYTES, Sink, Source, Store, StoreFault};
 use crate::whole::{ReadRefusal, read_all};
@@ -30,7 +34,13 @@ impl<R: Read> Source for ReadSource<R> {
 
     ghost faults = { λ s. s.faults };
 
-    fn read(&mut self, buf: &mut [u8]) -> Result<usize, Failed> {
+    /// Counts a fault exactly where the reader fails.
+    fn read(&mut self, buf: &mut [u8]) -> Result<usize, Failed>
+        ensures bound { ReadsAtMost result buf.new }
+        ensures bytes { ReadConsumes (R.remaining self.old.reader) (R.remaining self.new.reader) result buf.new }
+        ensures cause { HasCause self.old.faults self.new.faults result }
+        ensures counts { self.new.faults ≡ (if is_err result then next_count self.old.faults else self.old.faults) }
+    {
         match self.reader.read(buf) {
             Ok(count) => Ok(count),
             Err(_) => {
@@ -71,7 +81,16 @@ impl<W: Write> Sink for WriteSink<W> {
 
     ghost idle = { λ s. s.idle };
 
-    fn write(&mut self, piece: &[u8]) -> Result<usize, Failed> {
+    /// Counts a fault exactly where the writer fails, and an idle write exactly where it takes nothing of a piece.
+    fn write(&mut self, piece: &[u8]) -> Result<usize, Failed>
+        ensures bound { WritesAtMost result piece.now }
+        ensures bytes { WriteAppends (W.contents self.old.writer) (W.contents self.new.writer) result piece.now }
+        ensures cause { HasCause self.old.faults self.new.faults result }
+        ensures idle { CountsIdle self.old.idle self.new.idle result piece.now }
+        ensures counts { self.new.faults ≡ (if is_err result then next_count self.old.faults else self.old.faults) }
+        ensures idles { IfOk result (λ count. self.new.idle ≡ (if count == 0 && nat_lt 0 (length piece.now) then next_count self.old.idle else self.old.idle)) }
+        ensures awake { IsErr result → self.new.idle ≡ self.old.idle }
+    {
         match self.writer.write(piece) {
             Ok(0) => {
                 if !piece.is_empty() {

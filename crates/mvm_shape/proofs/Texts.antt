@@ -10,8 +10,9 @@ use Rattle.mvm_base.specs.declared.descriptor.FieldShape.{FieldShape}
 use Rattle.mvm_base.specs.declared.descriptor.MethodShape.{MethodShape}
 use Rattle.mvm_base.specs.declared.descriptor.DescFault.{DescFault}
 use Rattle.mvm_base.specs.declared.descriptor.DescFault.TheVariants as desc_fault
-use Rattle.mvm_shape.specs.Members.{is_unqualified, is_method_name, holds, is_static, parsed, field_descriptor, method_descriptor, has_few_parameters}
-use Rattle.mvm_shape.specs.Pool.{text, text_of}
+use Rattle.mvm_layout.specs.Flags.{is_static}
+use Rattle.mvm_shape.specs.Members.{is_unqualified, is_method_name, holds, parsed, field_descriptor, method_descriptor, has_few_parameters}
+use Rattle.mvm_layout.specs.Pool.{text, text_of}
 use Rattle.mvm_shape.specs.Facts.{facts_of, facts_of_item, all_facts, flattened, as_field, as_method, read_as, tested_as, is_known_field, is_known_method, known_field, known_method}
 use Rattle.mvm_shape.specs.declared.facts.TextFacts.{TextFacts}
 

@@ -9,7 +9,7 @@ use Rattle.mvm_layout.specs.declared.parts.Item.{Item}
 use Rattle.mvm_layout.specs.declared.parts.Item.TheVariants.{Utf8}
 use Rattle.mvm_layout.specs.declared.fault.ClassFault.{ClassFault}
 use Rattle.mvm_layout.specs.declared.fault.ClassFault.TheVariants.{Shape, Unsupported}
-use Rattle.mvm_shape.specs.Rules.{expect}
+use Rattle.mvm_base.specs.Rules.{expect}
 use Rattle.mvm_shape.specs.Members.{is_unqualified, is_method_name}
 use Rattle.mvm_shape.specs.declared.facts.Descriptor.{Descriptor}
 use Rattle.mvm_shape.specs.declared.facts.Descriptor.TheVariants.{Whole, Float, Broken}

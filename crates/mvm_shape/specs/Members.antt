@@ -1,7 +1,6 @@
 -- Fields and methods (JVM Specification 4.2.2, 4.3, 4.5, 4.6, 4.7.2, 4.7.3): the rules that they keep, each at its place, and
 -- what of them is kept.
 use Rattle.std.specs.Prelude.{ℕ, ◌+◌, List, [], ◌∷◌, length, Bool, true, false, not, ◌&&◌, ◌||◌, ◌==◌, nat_le, if◌then◌else◌, Option, Some, None, Result, Ok, Err, codes}
-use Rattle.std.specs.Int.Bits.{bit_and}
 use Rattle.std.specs.List.{list_all, list_any, filter}
 use Rattle.std.specs.Option.{option_map}
 use Rattle.std.specs.Str.{bytes_eq}
@@ -20,19 +19,9 @@ use Rattle.mvm_layout.specs.declared.parts.Code.{Code}
 use Rattle.mvm_layout.specs.declared.parts.Member.{Member}
 use Rattle.mvm_layout.specs.declared.info.MemberInfo.{MemberInfo}
 use Rattle.mvm_layout.specs.declared.info.CodeInfo.{CodeInfo}
-use Rattle.mvm_shape.specs.Pool.{entry, is_utf8, text, is_text}
-use Rattle.mvm_shape.specs.Rules.{expect, ◌and_then◌, each}
-
--- ---- flags (4.1, 4.5, 4.6)
-
-abbrev pub has_flag : ℕ → ℕ → Bool
-has_flag flag flags = not (bit_and flags flag == 0)
-
-abbrev pub is_static : ℕ → Bool
-is_static flags = has_flag 0x0008 flags
-
-abbrev pub is_native_or_abstract : ℕ → Bool
-is_native_or_abstract flags = has_flag 0x0100 flags || has_flag 0x0400 flags
+use Rattle.mvm_layout.specs.Flags.{is_static, has_no_code}
+use Rattle.mvm_layout.specs.Pool.{entry, is_utf8, text, is_text}
+use Rattle.mvm_base.specs.Rules.{expect, ◌and_then◌, each}
 
 -- ---- names (4.2.2)
 
@@ -156,11 +145,11 @@ field_rule pool is_interface before member = tested_field pool is_interface (is_
 unfoldable pub is_sound_method : List Item → Bool → MemberInfo → Bool
 is_sound_method pool repeated member =
     not repeated
-    && length (codes_among pool member.attributes) == (if is_native_or_abstract member.flags then 0 else 1)
+    && length (codes_among pool member.attributes) == (if has_no_code member.flags then 0 else 1)
 
 -- the code of an interface is that of its class initialisation method, at this stage
 abbrev pub is_built : List Item → Bool → MemberInfo → Bool
-is_built pool is_interface member = not is_interface || is_native_or_abstract member.flags || is_text (codes "<clinit>") (text pool member.name)
+is_built pool is_interface member = not is_interface || has_no_code member.flags || is_text (codes "<clinit>") (text pool member.name)
 
 unfoldable pub tested_method : List Item → Bool → Bool → MemberInfo → Result (Unit {0}) ClassFault
 tested_method pool is_interface repeated member =

@@ -12,7 +12,7 @@ use Rattle.std.specs.BTreeSet as sorted
 use Rattle.std.specs.BTreeSet.{BTreeSet}
 use Rattle.mvm_layout.specs.declared.parts.Item.{Item}
 use Rattle.mvm_layout.specs.declared.info.MemberInfo.{MemberInfo}
-use Rattle.mvm_shape.specs.Pool.{text_of, text}
+use Rattle.mvm_layout.specs.Pool.{text_of, text}
 use Rattle.mvm_shape.specs.Members.{is_repeated}
 
 -- the number that a map has for a text

@@ -5,16 +5,15 @@ use Rattle.mvm_layout.specs.declared.fault.ClassFault.TheVariants.{Pool, Shape}
 use Rattle.mvm_layout.specs.declared.parts.Item.{Item}
 use Rattle.mvm_layout.specs.declared.parts.Parts.{Parts}
 use Rattle.mvm_layout.specs.declared.info.ClassInfo.{ClassInfo}
-use Rattle.mvm_shape.specs.Pool.{entry, is_class, class_name, is_text, is_linked}
-use Rattle.mvm_shape.specs.Rules.{expect, ◌and_then◌, each_from, each, each_after}
-use Rattle.mvm_shape.specs.Members.{has_flag, field_rule, method_rule, named_attribute, field_part, method_part}
+use Rattle.mvm_layout.specs.Flags.{is_interface}
+use Rattle.mvm_layout.specs.Pool.{entry, is_class, class_name, is_text}
+use Rattle.mvm_shape.specs.Links.{is_linked}
+use Rattle.mvm_base.specs.Rules.{expect, ◌and_then◌, each_from, each, each_after}
+use Rattle.mvm_shape.specs.Members.{field_rule, method_rule, named_attribute, field_part, method_part}
 
 -- the lowest entry of the constant pool with an index that names no entry of the kind that it should (4.4)
 unfoldable pub linked : List Item → Result (Unit {0}) ClassFault
 linked pool = each_from 1 (λ index item. expect (is_linked pool item) (Pool index)) pool
-
-abbrev pub is_interface : ClassInfo → Bool
-is_interface info = has_flag 0x0200 info.flags
 
 abbrev pub names_object : List Item → ℕ → Bool
 names_object pool index = is_text (codes "java/lang/Object") (class_name pool index)
@@ -23,7 +22,7 @@ names_object pool index = is_text (codes "java/lang/Object") (class_name pool in
 unfoldable pub has_superclass : ClassInfo → Bool
 has_superclass info =
     (is_class (entry info.pool info.super_class) || (info.super_class == 0 && names_object info.pool info.this_class))
-    && (not (is_interface info) || names_object info.pool info.super_class)
+    && (not (is_interface info.flags) || names_object info.pool info.super_class)
 
 -- each direct superinterface is a class
 unfoldable pub are_interfaces : ClassInfo → Result (Unit {0}) ClassFault
@@ -40,8 +39,8 @@ header info =
 unfoldable pub rules : ClassInfo → Result (Unit {0}) ClassFault
 rules info =
     header info
-    and_then each_after [] (field_rule info.pool (is_interface info)) info.fields
-    and_then each_after [] (method_rule info.pool (is_interface info)) info.methods
+    and_then each_after [] (field_rule info.pool (is_interface info.flags)) info.fields
+    and_then each_after [] (method_rule info.pool (is_interface info.flags)) info.methods
     and_then each (named_attribute info.pool) info.attributes
 
 -- what is kept of a class file

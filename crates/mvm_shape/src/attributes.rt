@@ -2,24 +2,18 @@ ghost use Rattle.std.specs.Prelude.{◌≡◌, ◌&&◌, ◌||◌, codes, length
 ghost use Rattle.std.specs.List.{filter};
 ghost use Rattle.std.specs.Option.{option_copied};
 ghost use Rattle.mvm_base.specs.Endian.{big_number};
-ghost use Rattle.mvm_layout.specs.Answers.{AnswersInMemory};
+ghost use Rattle.mvm_base.specs.Answers.{AnswersUnless};
 ghost use Rattle.mvm_layout.specs.Layout.{code_in};
-ghost use Rattle.mvm_shape.specs.Pool.{entry, text, is_text};
-ghost use Rattle.mvm_shape.specs.Rules.{each};
-ghost use Rattle.mvm_shape.specs.Members.{is_static, is_named, is_int_text, is_constant_of, is_constant_value, field_attribute, named_attribute, code_attribute, method_attribute, first, index_in};
+ghost use Rattle.mvm_layout.specs.Pool.{entry, text, is_text};
+ghost use Rattle.mvm_base.specs.Rules.{each};
+ghost use Rattle.mvm_layout.specs.Flags.{is_static};
+ghost use Rattle.mvm_shape.specs.Members.{is_named, is_int_text, is_constant_of, is_constant_value, field_attribute, named_attribute, code_attribute, method_attribute, first, index_in};
 
-use crate::header::has_flag;
-use crate::pool::{entry, is_text, is_utf8};
 use mvm_base::List;
+use mvm_layout::flags::is_static;
+use mvm_layout::pool::{entry, is_text, is_utf8};
 use mvm_layout::{AttributeInfo, ClassFault, Item, MemberInfo, read_code};
 use std::alloc::Global;
-
-/// Whether these are the flags of a static member.
-pub(crate) fn is_static(flags: u16) -> bool
-    ensures { result ≡ is_static flags }
-{
-    has_flag(0x0008, flags)
-}
 
 fn is_named(pool: &List<Item>, name: &[u8], attribute: &AttributeInfo) -> bool
     ensures { result ≡ is_named pool.now name.now attribute.now }
@@ -31,14 +25,11 @@ fn is_named(pool: &List<Item>, name: &[u8], attribute: &AttributeInfo) -> bool
 pub(crate) fn count_named(pool: &List<Item>, name: &[u8], attributes: &List<AttributeInfo>) -> usize
     ensures { result ≡ length (filter (is_named pool.now name.now) attributes.now) }
 {
-    let all = attributes.as_slice();
-    let mut count = 0;
-    for i in 0..all.len() {
-        if is_named(pool, name, &all[i]) {
-            count += 1;
-        }
-    }
-    count
+    attributes
+        .as_slice()
+        .iter()
+        .filter(|attribute| is_named(pool, name, attribute))
+        .count()
 }
 
 /// The first attribute of this name.
@@ -108,7 +99,7 @@ fn test_field_attribute(
     member: &MemberInfo,
     attribute: &AttributeInfo,
 ) -> Result<(), ClassFault>
-    ensures { AnswersInMemory result (field_attribute pool.now member.now attribute.now) }
+    ensures { AnswersUnless ClassFault.OutOfMemory result (field_attribute pool.now member.now attribute.now) }
 {
     let tells = is_named(pool, b"ConstantValue", attribute) && is_static(member.flags);
     if is_utf8(pool, attribute.name())
@@ -124,7 +115,7 @@ pub(crate) fn test_field_attributes(
     pool: &List<Item>,
     member: &MemberInfo,
 ) -> Result<(), ClassFault>
-    ensures { AnswersInMemory result (each (field_attribute pool.now member.now) member.now.attributes) }
+    ensures { AnswersUnless ClassFault.OutOfMemory result (each (field_attribute pool.now member.now) member.now.attributes) }
 {
     let attributes = member.attributes.as_slice();
     for i in 0..attributes.len() {
@@ -135,7 +126,7 @@ pub(crate) fn test_field_attributes(
 
 #[tactic(auto, unfolding(crate::specs::Members::named_attribute))]
 fn test_name(pool: &List<Item>, attribute: &AttributeInfo) -> Result<(), ClassFault>
-    ensures { AnswersInMemory result (named_attribute pool.now attribute.now) }
+    ensures { AnswersUnless ClassFault.OutOfMemory result (named_attribute pool.now attribute.now) }
 {
     if is_utf8(pool, attribute.name()) {
         return Ok(());
@@ -148,7 +139,7 @@ pub(crate) fn test_names(
     pool: &List<Item>,
     attributes: &List<AttributeInfo>,
 ) -> Result<(), ClassFault>
-    ensures { AnswersInMemory result (each (named_attribute pool.now) attributes.now) }
+    ensures { AnswersUnless ClassFault.OutOfMemory result (each (named_attribute pool.now) attributes.now) }
 {
     let all = attributes.as_slice();
     for i in 0..all.len() {
@@ -158,12 +149,11 @@ pub(crate) fn test_names(
 }
 
 fn test_code(alloc: Global, pool: &List<Item>, attribute: &AttributeInfo) -> Result<(), ClassFault>
-    ensures { AnswersInMemory result (code_attribute pool.now attribute.now.at (code_in attribute.now)) }
+    ensures { AnswersUnless ClassFault.OutOfMemory result (code_attribute pool.now attribute.now.at (code_in attribute.now)) }
 {
-    match read_code(alloc, attribute) {
-        Ok(Some(info)) => test_names(pool, &info.attributes),
-        Ok(None) => Err(ClassFault::Shape(attribute.at())),
-        Err(_) => Err(ClassFault::OutOfMemory),
+    match read_code(alloc, attribute)? {
+        Some(info) => test_names(pool, &info.attributes),
+        None => Err(ClassFault::Shape(attribute.at())),
     }
 }
 
@@ -173,7 +163,7 @@ fn test_method_attribute(
     pool: &List<Item>,
     attribute: &AttributeInfo,
 ) -> Result<(), ClassFault>
-    ensures { AnswersInMemory result (method_attribute pool.now attribute.now) }
+    ensures { AnswersUnless ClassFault.OutOfMemory result (method_attribute pool.now attribute.now) }
 {
     test_name(pool, attribute)?;
     if is_named(pool, b"Code", attribute) {
@@ -188,7 +178,7 @@ pub(crate) fn test_method_attributes(
     pool: &List<Item>,
     attributes: &List<AttributeInfo>,
 ) -> Result<(), ClassFault>
-    ensures { AnswersInMemory result (each (method_attribute pool.now) attributes.now) }
+    ensures { AnswersUnless ClassFault.OutOfMemory result (each (method_attribute pool.now) attributes.now) }
 {
     let all = attributes.as_slice();
     for i in 0..all.len() {

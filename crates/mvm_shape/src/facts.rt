@@ -3,13 +3,13 @@ ghost use Rattle.std.specs.List.{list_all};
 ghost use Rattle.std.specs.Option.{option_map};
 ghost use Rattle.std.specs.Str.{bytes_eq};
 ghost use Rattle.mvm_layout.specs.Bounds.{HasFewUnits};
-ghost use Rattle.mvm_shape.specs.Pool.{text};
+ghost use Rattle.mvm_layout.specs.Pool.{text};
 ghost use Rattle.mvm_shape.specs.Members.{is_one_of, is_unqualified, is_method_name};
 ghost use Rattle.mvm_shape.specs.Facts.{as_field, as_method, facts_of, facts_of_item, all_facts, flattened};
 
-use crate::pool::same;
 use mvm_base::{DescFault, List, Name, OutOfMemory, parse_field, parse_method};
 use mvm_layout::Item;
+use mvm_layout::pool::{same_text, text};
 use std::alloc::Global;
 
 /// How a text was read as a descriptor.
@@ -66,20 +66,15 @@ fn is_unqualified(units: &[u16]) -> bool
 fn has_no_bracket(units: &[u16]) -> bool
     ensures { result ≡ list_all (λ unit. not (is_one_of (codes "<>") unit)) units.now }
 {
-    for unit in units {
-        if is_bracket(*unit) {
-            return false;
-        }
-    }
-    true
+    units.iter().all(|unit| !is_bracket(*unit))
 }
 
 #[tactic(auto, unfolding(crate::specs::Members::is_method_name))]
 fn is_method_name(units: &[u16]) -> bool
     ensures { result ≡ is_method_name units.now }
 {
-    same(units, b"<init>")
-        || same(units, b"<clinit>")
+    same_text(units, b"<init>")
+        || same_text(units, b"<clinit>")
         || (is_unqualified(units) && has_no_bracket(units))
 }
 

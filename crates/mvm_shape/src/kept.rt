@@ -3,8 +3,9 @@ ghost use Rattle.std.specs.Option.{option_map};
 ghost use Rattle.mvm_layout.specs.Layout.{code_in};
 ghost use Rattle.mvm_shape.specs.Members.{codes_among, constants_among, first, index_in, code_of_info, code_of, field_part, method_part};
 
-use crate::attributes::{first_named, index_in, is_static};
+use crate::attributes::{first_named, index_in};
 use mvm_base::{List, OutOfMemory};
+use mvm_layout::flags::is_static;
 use mvm_layout::{AttributeInfo, Code, Item, Member, MemberInfo, read_code};
 use std::alloc::Global;
 

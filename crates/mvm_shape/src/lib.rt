@@ -9,22 +9,26 @@ mod attributes;
 mod facts;
 mod header;
 mod kept;
+mod laws;
+mod links;
 mod lists;
 mod members;
 mod numbers;
-mod pool;
 #[cfg(test)]
 mod tests;
 
 ghost use Rattle.std.specs.Prelude.{◌≡◌, IfOk};
-ghost use Rattle.mvm_layout.specs.Answers.{AnswersInMemory};
+ghost use Rattle.mvm_base.specs.Answers.{AnswersUnless};
 ghost use Rattle.mvm_layout.specs.Bounds.{IsWithinFile};
 ghost use Rattle.mvm_shape.specs.Shape.{shaped, rules, parts_of};
 
+pub use laws::shape_law;
+
 use crate::attributes::test_names;
 use crate::facts::all_facts;
-use crate::header::{test_header, test_links};
+use crate::header::test_header;
 use crate::kept::{field_parts, method_parts};
+use crate::links::test_links;
 use crate::lists::{test_fields, test_methods};
 use crate::numbers::numbers;
 use mvm_base::OutOfMemory;
@@ -34,15 +38,11 @@ use std::alloc::Global;
 #[tactic(auto, unfolding(crate::specs::Shape::rules))]
 fn test_rules(alloc: Global, info: &ClassInfo) -> Result<(), ClassFault>
     requires { IsWithinFile info.now }
-    ensures { AnswersInMemory result (rules info.now) }
+    ensures { AnswersUnless ClassFault.OutOfMemory result (rules info.now) }
 {
     test_header(info)?;
-    let Ok(rows) = all_facts(alloc, &info.pool) else {
-        return Err(ClassFault::OutOfMemory);
-    };
-    let Ok(numbers) = numbers(alloc, &info.pool) else {
-        return Err(ClassFault::OutOfMemory);
-    };
+    let rows = all_facts(alloc, &info.pool)?;
+    let numbers = numbers(alloc, &info.pool)?;
     test_fields(alloc, info, &rows, &numbers)?;
     test_methods(alloc, info, &rows, &numbers)?;
     test_names(&info.pool, &info.attributes)
@@ -73,12 +73,9 @@ fn parts_of(alloc: Global, info: ClassInfo) -> Result<Parts, OutOfMemory>
 #[tactic(auto, unfolding(crate::specs::Shape::shaped))]
 pub fn shape<'a>(alloc: Global, info: ClassInfo<'a>) -> Result<Parts, ClassFault>
     requires { IsWithinFile info }
-    ensures { AnswersInMemory result (shaped info.entry) }
+    ensures { AnswersUnless ClassFault.OutOfMemory result (shaped info.entry) }
 {
     test_links(&info.pool)?;
     test_rules(alloc, &info)?;
-    match parts_of(alloc, info) {
-        Ok(parts) => Ok(parts),
-        Err(_) => Err(ClassFault::OutOfMemory),
-    }
+    Ok(parts_of(alloc, info)?)
 }

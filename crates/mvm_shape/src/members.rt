@@ -1,19 +1,21 @@
 ghost use Rattle.std.specs.Prelude.{◌≡◌, ◌≤◌, ◌<◌, ◌+◌, ◌^◌, if◌then◌else◌};
 ghost use Rattle.std.specs.List.{filter};
 ghost use Rattle.std.specs.Option.{option_map};
-ghost use Rattle.mvm_layout.specs.Answers.{AnswersInMemory};
+ghost use Rattle.mvm_base.specs.Answers.{AnswersUnless};
 ghost use Rattle.mvm_layout.specs.Bounds.{StandsWithin};
 ghost use Rattle.mvm_layout.specs.declared.fault.ClassFault.TheVariants.{Unsupported};
-ghost use Rattle.mvm_shape.specs.Pool.{text};
-ghost use Rattle.mvm_shape.specs.Rules.{expect};
-ghost use Rattle.mvm_shape.specs.Members.{is_static, is_native_or_abstract, is_unqualified, is_method_name, holds, field_descriptor, method_descriptor, is_sound_field, tested_field, is_sound_method, is_built, tested_method};
+ghost use Rattle.mvm_layout.specs.Pool.{text};
+ghost use Rattle.mvm_base.specs.Rules.{expect};
+ghost use Rattle.mvm_layout.specs.Flags.{is_static, has_no_code};
+ghost use Rattle.mvm_shape.specs.Members.{is_unqualified, is_method_name, holds, field_descriptor, method_descriptor, is_sound_field, tested_field, is_sound_method, is_built, tested_method};
 ghost use Rattle.mvm_shape.specs.Facts.{all_facts, facts_of, is_known_field, is_known_method, known_field, known_method, tested_as};
 
-use crate::attributes::{count_named, is_static, test_field_attributes, test_method_attributes};
+use crate::attributes::{count_named, test_field_attributes, test_method_attributes};
 use crate::facts::{Descriptor, TextFacts, facts_at};
-use crate::header::{has_flag, shape_fault};
-use crate::pool::is_text;
+use crate::header::shape_fault;
 use mvm_base::List;
+use mvm_layout::flags::{is_static, has_no_code};
+use mvm_layout::pool::is_text;
 use mvm_layout::{ClassFault, Item, MemberInfo};
 use std::alloc::Global;
 
@@ -49,7 +51,7 @@ fn unsupported_fault(at: u32) -> ClassFault
 fn test_read(at: u32, beside: u64, read: Descriptor) -> Result<(), ClassFault>
     requires place { at + 4 < 2 ^ 32 }
     requires few { beside ≤ 255 }
-    ensures { AnswersInMemory result (tested_as (at + 4) beside read) }
+    ensures { AnswersUnless ClassFault.OutOfMemory result (tested_as (at + 4) beside read) }
 {
     match read {
         Descriptor::Whole(slots) => {
@@ -89,7 +91,7 @@ fn test_field_descriptor(
 ) -> Result<(), ClassFault>
     requires rows { rows.now ≡ all_facts pool.now }
     requires within { StandsWithin member.now }
-    ensures { AnswersInMemory result (field_descriptor (member.now.at + 4) (text pool.now member.now.desc)) }
+    ensures { AnswersUnless ClassFault.OutOfMemory result (field_descriptor (member.now.at + 4) (text pool.now member.now.desc)) }
 {
     let read = known_field(facts_at(pool, rows, member.desc));
     test_read(member.at, 0, read)
@@ -110,7 +112,7 @@ fn test_method_descriptor(
 ) -> Result<(), ClassFault>
     requires rows { rows.now ≡ all_facts pool.now }
     requires within { StandsWithin member.now }
-    ensures { AnswersInMemory result (method_descriptor (member.now.at + 4) member.now.flags (text pool.now member.now.desc)) }
+    ensures { AnswersUnless ClassFault.OutOfMemory result (method_descriptor (member.now.at + 4) member.now.flags (text pool.now member.now.desc)) }
 {
     let read = known_method(facts_at(pool, rows, member.desc));
     test_read(member.at, own_slots(member.flags), read)
@@ -141,7 +143,7 @@ pub(crate) fn test_field(
 ) -> Result<(), ClassFault>
     requires rows { rows.now ≡ all_facts pool.now }
     requires within { StandsWithin member.now }
-    ensures { AnswersInMemory result (tested_field pool.now is_interface is_repeated member.now) }
+    ensures { AnswersUnless ClassFault.OutOfMemory result (tested_field pool.now is_interface is_repeated member.now) }
 {
     if !is_sound_field(pool, is_interface, is_repeated, member) {
         return Err(ClassFault::Shape(member.at));
@@ -153,16 +155,10 @@ pub(crate) fn test_field(
     test_field_attributes(pool, member)
 }
 
-fn is_native_or_abstract(flags: u16) -> bool
-    ensures { result ≡ is_native_or_abstract flags }
-{
-    has_flag(0x0100, flags) || has_flag(0x0400, flags)
-}
-
 fn codes_wanted(flags: u16) -> usize
-    ensures { result ≡ (if is_native_or_abstract flags then 0 else 1) }
+    ensures { result ≡ (if has_no_code flags then 0 else 1) }
 {
-    if is_native_or_abstract(flags) { 0 } else { 1 }
+    if has_no_code(flags) { 0 } else { 1 }
 }
 
 #[tactic(auto, unfolding(crate::specs::Members::is_sound_method))]
@@ -175,7 +171,7 @@ fn is_sound_method(pool: &List<Item>, is_repeated: bool, member: &MemberInfo) ->
 fn is_built(pool: &List<Item>, is_interface: bool, member: &MemberInfo) -> bool
     ensures { result ≡ is_built pool.now is_interface member.now }
 {
-    !is_interface || is_native_or_abstract(member.flags) || is_text(pool, member.name, b"<clinit>")
+    !is_interface || has_no_code(member.flags) || is_text(pool, member.name, b"<clinit>")
 }
 
 /// Whether a method keeps the rules.
@@ -190,7 +186,7 @@ pub(crate) fn test_method(
 ) -> Result<(), ClassFault>
     requires rows { rows.now ≡ all_facts pool.now }
     requires within { StandsWithin member.now }
-    ensures { AnswersInMemory result (tested_method pool.now is_interface is_repeated member.now) }
+    ensures { AnswersUnless ClassFault.OutOfMemory result (tested_method pool.now is_interface is_repeated member.now) }
 {
     if !is_sound_method(pool, is_repeated, member) {
         return Err(ClassFault::Shape(member.at));

@@ -1,9 +1,9 @@
 ghost use Rattle.std.specs.Prelude.{◌≡◌, ℕ, ◌||◌, slice_index, Some, IfOk};
-ghost use Rattle.mvm_shape.specs.Pool.{text_of};
+ghost use Rattle.mvm_layout.specs.Pool.{text_of};
 ghost use Rattle.mvm_shape.specs.Numbers.{look, Numbered, AreNumbers, number_at, is_pair, has_pair, holds_pair, Adds};
 
-use crate::pool::text;
 use mvm_base::{List, OutOfMemory};
+use mvm_layout::pool::text;
 use mvm_layout::{Item, MemberInfo};
 use std::alloc::Global;
 use std::collections::{BTreeMap, BTreeSet};

@@ -1,5 +1,5 @@
 use Rattle.std.proofs.Common.{◌≡◌, drop}
-use Rattle.mvm_check.specs.Rules.{each}
+use Rattle.mvm_base.specs.Rules.{each}
 use Rattle.mvm_check.specs.Check.{keeps_rule}
 use Rattle.mvm_check.proofs.checking.all_keep.Given as goal
 

@@ -1,5 +1,5 @@
 use Rattle.std.proofs.Common.{◌≡◌, drop}
-use Rattle.mvm_check.specs.Rules.{each_from}
+use Rattle.mvm_base.specs.Rules.{each_from}
 use Rattle.mvm_check.specs.Check.{method_rule}
 use Rattle.mvm_check.proofs.checking.all_methods.Given as goal
 

@@ -1,5 +1,5 @@
 use Rattle.std.proofs.Common.{◌≡◌, drop}
-use Rattle.mvm_shape.specs.Rules.{each}
+use Rattle.mvm_base.specs.Rules.{each}
 use Rattle.mvm_shape.specs.Members.{method_attribute}
 use Rattle.mvm_shape.proofs.attributes.test_method_attributes.Given as goal
 

@@ -1,7 +1,7 @@
 use Rattle.std.proofs.Common.{◌≡◌, ℕ, ◌+◌, ◌*◌, drop}
 use Rattle.mvm_layout.specs.declared.fault.ClassFault.TheVariants.{Shape}
-use Rattle.mvm_shape.specs.Pool.{entry, is_class}
-use Rattle.mvm_shape.specs.Rules.{expect, each_from}
+use Rattle.mvm_layout.specs.Pool.{entry, is_class}
+use Rattle.mvm_base.specs.Rules.{expect, each_from}
 use Rattle.mvm_shape.proofs.header.test_interfaces.Given as goal
 
 abbrev pub invariant-loop-i : goal.invariant-loop-i

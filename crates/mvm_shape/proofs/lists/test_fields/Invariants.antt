@@ -1,12 +1,12 @@
 use Rattle.std.proofs.Common.{◌≡◌, [], take, drop}
-use Rattle.mvm_shape.specs.Rules.{each_after}
+use Rattle.mvm_base.specs.Rules.{each_after}
 use Rattle.mvm_shape.specs.Members.{field_rule}
-use Rattle.mvm_shape.specs.Shape.{is_interface}
+use Rattle.mvm_layout.specs.Flags.{is_interface}
 use Rattle.mvm_shape.specs.Numbers.{Holds, holds_pair}
 use Rattle.mvm_shape.proofs.lists.test_fields.Given as goal
 
 abbrev pub invariant-loop-i : goal.invariant-loop-i
 invariant-loop-i l = record {
   holds : Holds l.info.pool l.numbers (holds_pair l.pairs) (take l.i l.info.fields);
-  rest : each_after (take l.i l.info.fields) (field_rule l.info.pool (is_interface l.info)) (drop l.i l.info.fields) ≡ each_after [] (field_rule l.info.pool (is_interface l.info)) l.info.fields;
+  rest : each_after (take l.i l.info.fields) (field_rule l.info.pool (is_interface l.info.flags)) (drop l.i l.info.fields) ≡ each_after [] (field_rule l.info.pool (is_interface l.info.flags)) l.info.fields;
 }

@@ -2,7 +2,7 @@ use Rattle.std.proofs.Common.{◌-◌, false}
 use Rattle.std.proofs.lemmas.Result.{err_from_is_err_and}
 use Rattle.mvm_layout.specs.Entries.{items}
 use Rattle.mvm_layout.proofs.Loops.{entries_go_on, entries_fail}
-use Rattle.mvm_layout.proofs.pool.items.Goals as goal
+use Rattle.mvm_layout.proofs.entries.items.Goals as goal
 
 pub returns-in_err-one : goal.returns-in_err-one
 returns-in_err-one c =

@@ -3,7 +3,7 @@ use Rattle.mvm_base.specs.ModifiedUtf8.{Decodes}
 use Rattle.mvm_base.specs.declared.modified_utf8.Utf8Fault.{Utf8Fault}
 use Rattle.mvm_base.specs.declared.modified_utf8.Utf8Fault.TheVariants.{Bad, OutOfMemory}
 use Rattle.mvm_layout.proofs.Texts.{text_of-complete, text_of-none}
-use Rattle.mvm_layout.proofs.pool.text_of.Goals as goal
+use Rattle.mvm_layout.proofs.entries.text_of.Goals as goal
 
 not_decoded : (fault : Utf8Fault) (place : ℕ) (units : List ℕ) → fault ≡ Bad place → Decodes (Err fault) (Ok units) → ⊥
 not_decoded (Bad at) place units e d = absurd cc

@@ -1,9 +1,9 @@
 use Rattle.std.proofs.Common.{◌≡◌, ◌+◌, drop}
 use Rattle.mvm_layout.specs.declared.parts.Item.{Item}
 use Rattle.mvm_layout.specs.declared.fault.ClassFault.TheVariants.{Pool}
-use Rattle.mvm_shape.specs.Pool.{is_linked}
-use Rattle.mvm_shape.specs.Rules.{expect, each_from}
-use Rattle.mvm_shape.proofs.header.test_links.Given as goal
+use Rattle.mvm_shape.specs.Links.{is_linked}
+use Rattle.mvm_base.specs.Rules.{expect, each_from}
+use Rattle.mvm_shape.proofs.links.test_links.Given as goal
 
 abbrev pub invariant-loop-i : goal.invariant-loop-i
 invariant-loop-i l =

@@ -1,6 +1,6 @@
 use Rattle.std.proofs.Common.{◌≡◌, drop}
 use Rattle.std.specs.Str.{bytes_eq}
-use Rattle.mvm_shape.proofs.pool.same.Given as goal
+use Rattle.mvm_layout.proofs.pool.same_text.Given as goal
 
 abbrev pub invariant-loop-i : goal.invariant-loop-i
 invariant-loop-i l = bytes_eq (drop l.i l.units) (drop l.i l.wanted) ≡ bytes_eq l.units l.wanted
