@@ -117,7 +117,7 @@ pub(crate) struct Table<'a> {
 impl<'a> Model for Table<'a> {
     ghost use Rattle.std.specs.Prelude.{List, ◌≡◌, ◌*◌, ◌^◌, length, pos, ◌+ℤ◌, ◌≤ℤ◌};
     ghost use Rattle.mvm_insn.specs.Rows.{rows, table_row};
-    ghost use Rattle.mvm_insn.specs.declared.rows.SwitchRow.{SwitchRow};
+    ghost use Rattle.mvm_insn.specs.declared.switch_rows.SwitchRow.{SwitchRow};
 
     ghost Value = { List SwitchRow };
 
@@ -175,7 +175,7 @@ pub(crate) struct Lookup<'a> {
 impl<'a> Model for Lookup<'a> {
     ghost use Rattle.std.specs.Prelude.{List, ◌≡◌, ◌*◌, ◌-◌, length, true};
     ghost use Rattle.mvm_insn.specs.Rows.{rows, lookup_row, rising, word};
-    ghost use Rattle.mvm_insn.specs.declared.rows.SwitchRow.{SwitchRow};
+    ghost use Rattle.mvm_insn.specs.declared.switch_rows.SwitchRow.{SwitchRow};
 
     ghost Value = { List SwitchRow };
 

@@ -1,7 +1,7 @@
 ghost use Rattle.std.specs.Prelude.{◌≡◌, ◌<◌, length, slice_get, Some, unwrap_or};
 ghost use Rattle.mvm_insn.specs.Rows.{target_in};
 
-use crate::rows::{Lookup, SwitchRow, Table};
+use crate::switch_rows::{Lookup, SwitchRow, Table};
 use std::marker::Model;
 
 #[derive(Debug, Drop)]
