@@ -1,7 +1,7 @@
 -- Files by name, of a store that may tell which it holds.
 use Rattle.std.specs.Prelude.{◌≡◌, ℕ, ◌<◌, List, [], ◌∷◌, length, Option, Some, None, ⊤, if◌then◌else◌}
 use Rattle.std.specs.Str.{bytes_eq}
-use Rattle.mvm_outside.specs.declared.rows.FileRow.{FileRow}
+use Rattle.mvm_outside.specs.declared.file_row.FileRow.{FileRow}
 
 -- the bytes of the file of each name
 abbrev pub Files : Type 0
@@ -26,3 +26,7 @@ HasLongFile (Some files) name most = (bytes : List ℕ) × (files name ≡ Some 
 abbrev pub file_of : List FileRow → Files
 file_of [] name = None
 file_of (row ∷ rows) name = if bytes_eq row.name name then Some row.bytes else file_of rows name
+
+-- what a store says of its files that does not tell which it holds
+abbrev pub untold : Option Files
+untold = None

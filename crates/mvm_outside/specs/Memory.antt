@@ -1,7 +1,7 @@
 -- What the objects over memory are to a clause.
-use Rattle.std.specs.Prelude.{ℕ, ◌+◌, ◌-◌, ◌^◌, min, Bool, List, nat_eq}
+use Rattle.std.specs.Prelude.{ℕ, Bool, List, nat_eq}
 use Rattle.std.specs.List.{list_any}
-use Rattle.mvm_outside.specs.declared.rows.FileRow.{FileRow}
+use Rattle.mvm_outside.specs.declared.file_row.FileRow.{FileRow}
 
 -- a source: what is left, the numbers of the calls that fail, and how many calls and faults there were
 pub record SourceState : Type 0 where
@@ -30,7 +30,3 @@ pub record SinkState : Type 0 where
 -- whether the call of this number is to fail
 abbrev pub is_failing : List ℕ → ℕ → Bool
 is_failing failing call = list_any (λ number. nat_eq number call) failing
-
--- one more, as a u64 counts
-abbrev pub next_count : ℕ → ℕ
-next_count n = min (n + 1) (2 ^ 64 - 1)

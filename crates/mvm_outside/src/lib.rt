@@ -1,4 +1,4 @@
-//! What a machine meets outside of itself: sources that bytes come from, stores that hold files, sinks that
+//! Ground: what a machine meets outside of itself, as sources that bytes come from, stores that hold files, sinks that
 //! bytes go to, and gates that a worker passes at each turn.
 //!
 //! To the layer above it promises that the outside can neither lie unseen nor fail unseen. Where a source, a
@@ -13,19 +13,19 @@
 //! trusted, and no clause says what a real file or a real terminal holds.
 #![tactic(auto)]
 
+mod file_row;
 mod memory_sink;
 mod memory_source;
 mod memory_store;
 mod real;
-mod rows;
 mod traits;
 mod whole;
 
+pub use file_row::FileRow;
 pub use memory_sink::MemorySink;
 pub use memory_source::{MemorySource, NeverSource};
 pub use memory_store::{MemoryStore, NeverStore};
 pub use real::{FolderStore, ReadSource, WriteSink};
-pub use rows::FileRow;
 pub use traits::{Failed, Gate, MOST_FILE_BYTES, NoGate, Sink, Source, Store, StoreFault};
 pub use whole::{ReadRefusal, read_all, write_all};
 

@@ -1,8 +1,8 @@
 ghost use Rattle.std.specs.Prelude.{◌≡◌, ◌==◌, ◌&&◌, [], length, min, nat_lt, is_err, IsTrue, IsErr, IfOk, Some, if◌then◌else◌};
 ghost use Rattle.std.specs.Io.{WritesAtMost};
 ghost use Rattle.std.specs.Io.KnownBytes.{WriteAppends};
-ghost use Rattle.mvm_outside.specs.Causes.{HasCause, CountsIdle};
-ghost use Rattle.mvm_outside.specs.Memory.{is_failing, next_count};
+ghost use Rattle.mvm_outside.specs.Causes.{HasCause, CountsIdle, counted_if, is_idle, next_count};
+ghost use Rattle.mvm_outside.specs.Memory.{is_failing};
 
 use crate::traits::{Failed, Sink};
 use mvm_base::List;
@@ -69,9 +69,8 @@ impl Sink for MemorySink {
         ensures idle { CountsIdle self.old.idle self.new.idle result piece.now }
         ensures fails { IsTrue (is_failing self.old.failing self.old.calls) → IsErr result }
         ensures takes { IfOk result (λ count. count ≡ min (length piece.now) self.old.most) }
-        ensures counts { self.new.faults ≡ (if is_err result then next_count self.old.faults else self.old.faults) }
-        ensures idles { IfOk result (λ count. self.new.idle ≡ (if count == 0 && nat_lt 0 (length piece.now) then next_count self.old.idle else self.old.idle)) }
-        ensures awake { IsErr result → self.new.idle ≡ self.old.idle }
+        ensures counts { self.new.faults ≡ counted_if (is_err result) self.old.faults }
+        ensures idles { self.new.idle ≡ counted_if (is_idle result piece.now) self.old.idle }
         ensures others { self.new ≡ record self.old { taken = self.new.taken; calls = next_count self.old.calls; faults = self.new.faults; idle = self.new.idle } }
     {
         let call = self.calls;

@@ -1,8 +1,8 @@
 ghost use Rattle.std.specs.Prelude.{◌≡◌, ◌<◌, ◌≤◌, ◌++◌, [], length, take, is_err, IsOk, Some, if◌then◌else◌};
 ghost use Rattle.std.specs.Io.{ReadsAtMost};
 ghost use Rattle.std.specs.Io.KnownBytes.{ReadConsumes};
-ghost use Rattle.mvm_outside.specs.Causes.{HasCause};
-ghost use Rattle.mvm_outside.specs.Memory.{is_failing, next_count};
+ghost use Rattle.mvm_outside.specs.Causes.{HasCause, counted_if, next_count};
+ghost use Rattle.mvm_outside.specs.Memory.{is_failing};
 
 use crate::traits::{Failed, Source};
 use mvm_base::List;
@@ -101,7 +101,7 @@ impl Source for MemorySource {
         ensures bytes { ReadConsumes (Some self.old.left) (Some self.new.left) result buf.new }
         ensures cause { HasCause self.old.faults self.new.faults result }
         ensures fails { is_err result ≡ is_failing self.old.failing self.old.calls }
-        ensures faults { self.new.faults ≡ (if is_err result then next_count self.old.faults else self.old.faults) }
+        ensures counts { self.new.faults ≡ counted_if (is_err result) self.old.faults }
         ensures others { self.new ≡ record self.old { left = self.new.left; calls = next_count self.old.calls; faults = self.new.faults } }
     {
         let call = self.calls;

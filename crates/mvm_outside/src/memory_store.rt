@@ -1,10 +1,10 @@
 ghost use Rattle.std.specs.Prelude.{◌≡◌, ◌≢◌, ◌≤◌, length, IsTrue, IfOk, IfSome, Some, if◌then◌else◌};
 ghost use Rattle.std.specs.Option.{option_copied};
-ghost use Rattle.mvm_outside.specs.Causes.{Rose};
+ghost use Rattle.mvm_outside.specs.Causes.{Rose, counted_if, is_failure, next_count};
 ghost use Rattle.mvm_outside.specs.Files.{HasFile, HasNoFile, HasLongFile, file_of};
-ghost use Rattle.mvm_outside.specs.Memory.{is_failing, next_count};
+ghost use Rattle.mvm_outside.specs.Memory.{is_failing};
 
-use crate::rows::FileRow;
+use crate::file_row::FileRow;
 use crate::traits::{MOST_FILE_BYTES, Store, StoreFault};
 use mvm_base::{Line, List};
 use std::alloc::Global;
@@ -88,7 +88,7 @@ impl Store for MemoryStore {
         ensures failed { result ≡ Err StoreFault.Failed → Rose self.old.faults self.new.faults }
         ensures fails { IsTrue (is_failing self.old.failing self.old.calls) → result ≡ Err StoreFault.Failed }
         ensures fails_only { result ≡ Err StoreFault.Failed → IsTrue (is_failing self.old.failing self.old.calls) }
-        ensures faults { self.new.faults ≡ (if is_failing self.old.failing self.old.calls then next_count self.old.faults else self.old.faults) }
+        ensures counts { self.new.faults ≡ counted_if (is_failure result) self.old.faults }
         ensures others { self.new ≡ record self.old { calls = next_count self.old.calls; faults = self.new.faults } }
     {
         let call = self.calls;
@@ -110,7 +110,7 @@ pub struct NeverStore {
 
 impl Model for NeverStore {
     ghost use Rattle.std.specs.Prelude.{List};
-    ghost use Rattle.mvm_outside.specs.declared.rows.FileRow.{FileRow};
+    ghost use Rattle.mvm_outside.specs.declared.file_row.FileRow.{FileRow};
 
     ghost Value = { List FileRow };
 

@@ -1,8 +1,8 @@
 ghost use Rattle.std.specs.Prelude.{◌≡◌, ◌≤◌, ◌==◌, ◌&&◌, length, nat_lt, is_err, IsErr, IfOk, IfSome, None, if◌then◌else◌};
 ghost use Rattle.std.specs.Io.{ReadsAtMost, WritesAtMost};
 ghost use Rattle.std.specs.Io.KnownBytes.{ReadConsumes, WriteAppends};
-ghost use Rattle.mvm_outside.specs.Causes.{HasCause, CountsIdle};
-ghost use Rattle.mvm_outside.specs.Memory.{next_count};
+ghost use Rattle.mvm_outside.specs.Causes.{Rose, HasCause, CountsIdle, counted_if, is_idle, is_failure};
+ghost use Rattle.mvm_outside.specs.Files.{HasFile, HasNoFile, HasLongFile, untold};
 
 use crate::traits::{Failed, MOST_FILE_BYTES, Sink, Source, Store, StoreFault};
 use crate::whole::{ReadRefusal, read_all};
@@ -39,7 +39,7 @@ impl<R: Read> Source for ReadSource<R> {
         ensures bound { ReadsAtMost result buf.new }
         ensures bytes { ReadConsumes (R.remaining self.old.reader) (R.remaining self.new.reader) result buf.new }
         ensures cause { HasCause self.old.faults self.new.faults result }
-        ensures counts { self.new.faults ≡ (if is_err result then next_count self.old.faults else self.old.faults) }
+        ensures counts { self.new.faults ≡ counted_if (is_err result) self.old.faults }
     {
         match self.reader.read(buf) {
             Ok(count) => Ok(count),
@@ -87,9 +87,8 @@ impl<W: Write> Sink for WriteSink<W> {
         ensures bytes { WriteAppends (W.contents self.old.writer) (W.contents self.new.writer) result piece.now }
         ensures cause { HasCause self.old.faults self.new.faults result }
         ensures idle { CountsIdle self.old.idle self.new.idle result piece.now }
-        ensures counts { self.new.faults ≡ (if is_err result then next_count self.old.faults else self.old.faults) }
-        ensures idles { IfOk result (λ count. self.new.idle ≡ (if count == 0 && nat_lt 0 (length piece.now) then next_count self.old.idle else self.old.idle)) }
-        ensures awake { IsErr result → self.new.idle ≡ self.old.idle }
+        ensures counts { self.new.faults ≡ counted_if (is_err result) self.old.faults }
+        ensures idles { self.new.idle ≡ counted_if (is_idle result piece.now) self.old.idle }
     {
         match self.writer.write(piece) {
             Ok(0) => {
@@ -146,11 +145,21 @@ fn read_path<R: Files>(
 }
 
 impl<'a, R: Files> Store for FolderStore<'a, R> {
-    ghost files = { λ _. None };
+    ghost files = { λ _. untold };
 
     ghost faults = { λ s. s.faults };
 
-    fn read_file(&mut self, alloc: Global, name: &Line) -> Result<Option<List<u8>>, StoreFault> {
+    /// Counts a fault exactly where it answers `Failed`.
+    fn read_file(&mut self, alloc: Global, name: &Line) -> Result<Option<List<u8>>, StoreFault>
+        ensures kept { untold ≡ untold }
+        ensures found { IfOk result (λ file. IfSome file (λ bytes. HasFile untold name.now bytes)) }
+        ensures within { IfOk result (λ file. IfSome file (λ bytes. length bytes ≤ MOST_FILE_BYTES)) }
+        ensures missing { result ≡ Ok None → HasNoFile untold name.now }
+        ensures too_long { result ≡ Err StoreFault.TooLong → HasLongFile untold name.now MOST_FILE_BYTES }
+        ensures later { self.old.faults ≤ self.new.faults }
+        ensures failed { result ≡ Err StoreFault.Failed → Rose self.old.faults self.new.faults }
+        ensures counts { self.new.faults ≡ counted_if (is_failure result) self.old.faults }
+    {
         let answer = read_path(self.runtime, alloc, name.as_str());
         if let Err(StoreFault::Failed) = answer {
             self.faults = self.faults.saturating_add(1);

@@ -133,11 +133,15 @@ fn files_of_the_folder(rt: HostRuntime) -> Result<(), Fail> {
     let long = vec![in alloc; 7u8; 1_048_577]?;
     fs::write(&rt, "outside-long", long.as_slice())?;
     fs::write(&rt, "outside-most", &long[1..])?;
+    fs::write(&rt, "outside-empty", &long[..0])?;
     let too_long = length_of(&mut store, alloc, "outside-long");
     let most = length_of(&mut store, alloc, "outside-most");
+    let empty = length_of(&mut store, alloc, "outside-empty");
     fs::remove_file(&rt, "outside-long")?;
     fs::remove_file(&rt, "outside-most")?;
+    fs::remove_file(&rt, "outside-empty")?;
     assert_eq!(rt; too_long?, Err(StoreFault::TooLong));
     assert_eq!(rt; most?, Ok(Some(1_048_576)));
+    assert_eq!(rt; empty?, Ok(Some(0)));
     Ok(())
 }

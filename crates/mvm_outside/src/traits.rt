@@ -7,7 +7,7 @@ ghost use Rattle.mvm_outside.specs.Files.{HasFile, HasNoFile, HasLongFile};
 use mvm_base::{Line, List};
 use std::alloc::Global;
 
-/// How many bytes a file of a store may have at most: 2^20.
+/// How many bytes a file of a store may have at most: 1,048,576.
 pub const MOST_FILE_BYTES: usize = 1_048_576;
 
 /// The outside failed, and counted a fault.
@@ -19,7 +19,8 @@ pub trait Source {
     /// The bytes that are left, where the source tells them.
     ghost left: { Self → Option (List ℕ) };
 
-    /// How often the source failed. This never falls.
+    /// The count of the source's faults. It never falls, and rises at least where a call answers `Failed`, unless it
+    /// stands at the last value of a u64.
     ghost faults: { Self → ℕ };
 
     /// Puts the next bytes at the front of `buf`, and says how many. For a `buf` that is not empty, 0 says that
@@ -46,7 +47,8 @@ pub trait Store {
     /// The bytes of the file of each name, where the store tells them.
     ghost files: { Self → Option (List ℕ → Option (List ℕ)) };
 
-    /// How often the store failed. This never falls.
+    /// The count of the store's faults. It never falls, and rises at least where a call answers `Failed`, unless it
+    /// stands at the last value of a u64.
     ghost faults: { Self → ℕ };
 
     /// The bytes of the file of this name, or `None` where there is no such file. Whatever it answers, the
@@ -70,10 +72,12 @@ pub trait Sink {
     /// All bytes that the sink took, in their order, where the sink tells them.
     ghost taken: { Self → Option (List ℕ) };
 
-    /// How often the sink failed. This never falls.
+    /// The count of the sink's faults. It never falls, and rises at least where a call answers `Failed`, unless it
+    /// stands at the last value of a u64.
     ghost faults: { Self → ℕ };
 
-    /// How often the sink took nothing of a piece that is not empty, and did not fail. This never falls.
+    /// The count of idle writes. It never falls, stands where the piece is empty, and rises at least where the sink takes
+    /// nothing of a piece that is not empty and does not fail, unless it stands at the last value of a u64.
     ghost idle: { Self → ℕ };
 
     /// Takes bytes from the front of `piece`, and says how many. `Failed` took none.

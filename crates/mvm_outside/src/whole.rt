@@ -68,7 +68,7 @@ pub fn read_all<S: Source>(
 pub fn write_all<K: Sink>(sink: &mut K, bytes: &[u8]) -> Result<(), usize>
     // What was taken.
     ensures ok { OnOk result (Appends (K.taken sink.old) (K.taken sink.new) bytes.now) }
-    ensures prefix { IfErr result (λ done. (done ≤ length bytes.now) × Appends (K.taken sink.old) (K.taken sink.new) (take done bytes.now)) }
+    ensures prefix { IfErr result (λ done. (done < length bytes.now) × Appends (K.taken sink.old) (K.taken sink.new) (take done bytes.now)) }
     ensures empty { bytes.now ≡ [] → sink.new ≡ sink.old }
 
     // Why not all was, and that no count falls.
