@@ -195,9 +195,9 @@ class ClassFile:
         if data.take(4) != b"\xca\xfe\xba\xbe":
             raise Fault("Magic")
         data.number(2)
-        major = data.number(2)
-        if not 45 <= major <= 52:
-            raise Fault("Version", major)
+        self.major = data.number(2)
+        if not 45 <= self.major <= 52:
+            raise Fault("Version", self.major)
         self.pool = read_pool(data)
         self.place = data.at()
         self.flags, self.this_class, self.super_class = data.number(2), data.number(2), data.number(2)
@@ -282,7 +282,10 @@ class ClassFile:
         if len(codes) != (0 if has_none else 1):
             yield place, "Shape"
         if self.flags & 0x0200 and codes and name != "<clinit>":
-            yield place, "Unsupported"
+            if self.major < 52:
+                yield place, "Unsupported"
+            elif flags & 0x0003 not in (0x0001, 0x0002) or flags & 0x0034:
+                yield place, "Shape"
         if not name or set(name) & set(".;[/") or name not in ("<init>", "<clinit>") and set(name) & set("<>"):
             yield place + 2, "Shape"
         slots = None if descriptor is None else slots_of(descriptor)
@@ -508,9 +511,13 @@ def verdict(data):
     return "Ok"
 
 
-def body_of(data):
-    """The place behind the constant pool."""
+def places_of(data):
+    """The place behind the constant pool, and the places of the flags of the class and of its methods."""
     reader = Bytes(data)
     reader.take(8)
     read_pool(reader)
-    return reader.at()
+    body = reader.at()
+    reader.take(6)
+    reader.take(2 * reader.number(2))
+    read_members(reader)
+    return body, [body] + [place for place, *_ in read_members(reader)]
