@@ -188,16 +188,16 @@ dims_takes dims text (Err fault) x l all e = absurd cc
 
 pub field_takes : (dims at : ℕ) (text : List ℕ) (x : FieldShape × Place) → dims < 256 → field_in dims at text ≡ Ok x → FieldTakes dims text x.0 x.1.rest
 field_takes dims at [] x l e = absurd cc
-field_takes dims at (letter ∷ text) x l e = by (eqb letter 91) (ltb dims 255) refl refl e (λ m h. field_takes (dims + 1) (at + 1) text x m h)
+field_takes dims at (letter ∷ text) x l e = by (eqb letter 91) (ltb dims 255) _ refl refl e (λ m h. field_takes (dims + 1) (at + 1) text x m h)
   where
-    by : (a b : Bool) → eqb letter 91 ≡ a → ltb dims 255 ≡ b → cond a (cond b (field_in (dims + 1) (at + 1) text) (Err (BadLetter at))) (with_dims dims (base_in at letter text)) ≡ Ok x → (dims + 1 < 256 → field_in (dims + 1) (at + 1) text ≡ Ok x → FieldTakes (dims + 1) text x.0 x.1.rest) → FieldTakes dims (letter ∷ text) x.0 x.1.rest
-    by true true h k f all = (
+    by : (a b : Bool) (other : DescFault) → eqb letter 91 ≡ a → ltb dims 255 ≡ b → cond a (cond b (field_in (dims + 1) (at + 1) text) (Err other)) (with_dims dims (base_in at letter text)) ≡ Ok x → (dims + 1 < 256 → field_in (dims + 1) (at + 1) text ≡ Ok x → FieldTakes (dims + 1) text x.0 x.1.rest) → FieldTakes dims (letter ∷ text) x.0 x.1.rest
+    by true true other h k f all = (
         let m : dims + 1 < 256 = grind (arith, nat_tests) in
         let g = all m f in
         let n : letter ≡ 91 = grind (arith, nat_tests) in
         record { more = suc g.more; dims_are = omega (arith, g.dims_are); few = g.few; fits = g.fits; front = rw (n, g.front) refl })
-    by true false h k f all = absurd cc
-    by false b h k f all = dims_takes dims (letter ∷ text) (base_in at letter text) x l (λ y t. base_takes at letter text y t) f
+    by true false other h k f all = absurd cc
+    by false b other h k f all = dims_takes dims (letter ∷ text) (base_in at letter text) x l (λ y t. base_takes at letter text y t) f
 
 pub field_again : (n dims total at : ℕ) (b : Base) (rest : List ℕ) → total ≡ n + dims → total < 256 → IsBase b → Stops (field_in dims at (replicate n 91 ++ (spelled_base b ++ rest))) (record { dims = total; base = b }) rest (at + length (replicate n 91 ++ (spelled_base b ++ rest)))
 field_again zero dims total at b rest e l h = let k : dims ≡ total = omega arith in subst (λ (d : ℕ). Stops (field_in dims at (spelled_base b ++ rest)) (record { dims = d; base = b }) rest (at + length (spelled_base b ++ rest))) k (base_again at b rest dims h)

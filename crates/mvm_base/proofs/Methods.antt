@@ -129,14 +129,14 @@ unfolding method_of
 method_found [] method e = absurd cc
 method_found (letter ∷ text) method e =
     let z : (length (letter ∷ text) == 0) ≡ false = grind (arith, nat_tests) in
-    by (letter == 40) refl (rw z at e)
+    by (letter == 40) _ refl (rw z at e)
   where
-    by : (b : Bool) → (letter == 40) ≡ b → cond b (method_in 1 text) (Err (BadLetter 0)) ≡ Ok method → MethodFound (letter ∷ text) method
-    by true n h =
+    by : (b : Bool) (other : DescFault) → (letter == 40) ≡ b → cond b (method_in 1 text) (Err other) ≡ Ok method → MethodFound (letter ∷ text) method
+    by true other n h =
         let t = method_takes 1 text method h in
         let k : letter ≡ 40 = grind (arith, nat_tests) in
         record { few = omega (arith, t.few); fits = t.fits; is = rw (k, t.front) refl }
-    by false n h = absurd cc
+    by false other n h = absurd cc
 
 -- ---- what is spelled so is read
 
