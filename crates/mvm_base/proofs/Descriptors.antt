@@ -42,11 +42,11 @@ with_letter_ok letter (Ok z) x e = let k : (letter ∷ z.0, z.1) ≡ x = cc in (
     ok w = Ok w
 with_letter_ok letter (Err fault) x e = absurd cc
 
-misplaced_not : (is_open : Bool) (letter : ℕ) → is_misplaced is_open letter ≡ false → eqb letter 59 ≡ false → (cond (eqb letter 47) (not is_open) (is_name_unit letter)) ≡ true
+pub misplaced_not : (is_open : Bool) (letter : ℕ) → is_misplaced is_open letter ≡ false → eqb letter 59 ≡ false → (cond (eqb letter 47) (not is_open) (is_name_unit letter)) ≡ true
 misplaced_not true letter m s = grind (arith, nat_tests)
 misplaced_not false letter m s = grind (arith, nat_tests)
 
-parts_more : (is_open b : Bool) (letter : ℕ) (y : List ℕ) → cond b (not is_open) (is_name_unit letter) ≡ true → eqb letter 47 ≡ b → has_parts b y ≡ true → has_parts is_open (letter ∷ y) ≡ true
+pub parts_more : (is_open b : Bool) (letter : ℕ) (y : List ℕ) → cond b (not is_open) (is_name_unit letter) ≡ true → eqb letter 47 ≡ b → has_parts b y ≡ true → has_parts is_open (letter ∷ y) ≡ true
 parts_more is_open true letter y h e k = rw (e, h, k) refl
 parts_more is_open false letter y h e k = rw (e, h, k) refl
 
@@ -82,34 +82,35 @@ name_takes is_open at (letter ∷ text) x e = by (is_misplaced is_open letter) (
         let k = with_letter_ok letter (name_in (eqb letter 47) (at + 1) text) x h in
         subst (λ (z : List ℕ). NameTakes is_open (letter ∷ text) z x.1.rest) (sym k.2) (more k.0 t m (all (k.0, x.1) k.1)))
 
--- so many letters on, with this value
-pub record Stops {A : Type 0} (r : Result (A × Place) DescFault) (x : A) (rest : List ℕ) : Type 0 where
+-- Some letters are read as this value. The places of all letters end at this one.
+pub record Stops {A : Type 0} (r : Result (A × Place) DescFault) (x : A) (rest : List ℕ) (total : ℕ) : Type 0 where
   pub at : ℕ
   pub is : r ≡ Ok (x, record { at = at; rest = rest })
+  pub place : at + length rest ≡ total
 
 letter_read : (is_open b : Bool) (at letter : ℕ) (text name : List ℕ) (q : Place) → is_misplaced is_open letter ≡ false → eqb letter 59 ≡ false → eqb letter 47 ≡ b → name_in b (at + 1) text ≡ Ok (name, q) → name_in is_open at (letter ∷ text) ≡ Ok (letter ∷ name, q)
 letter_read is_open b at letter text name q m s e h =
     let k : with_letter letter (name_in (eqb letter 47) (at + 1) text) ≡ Ok (letter ∷ name, q) = rw (e, h) refl in
     rw (m, s) k
 
-pub name_again : (is_open : Bool) (at : ℕ) (name rest : List ℕ) → has_parts is_open name ≡ true → Stops (name_in is_open at (name ++ 59 ∷ rest)) name rest
+pub name_again : (is_open : Bool) (at : ℕ) (name rest : List ℕ) → has_parts is_open name ≡ true → Stops (name_in is_open at (name ++ 59 ∷ rest)) name rest (at + length (name ++ 59 ∷ rest))
 name_again true at [] rest h = absurd cc
-name_again false at [] rest h = record { at = at + 1; is = refl }
+name_again false at [] rest h = record { at = at + 1; is = refl; place = omega arith }
 name_again is_open at (letter ∷ name) rest h = by (eqb letter 47) refl h (λ b k. name_again b (at + 1) name rest k)
   where
-    by : (b : Bool) → eqb letter 47 ≡ b → cond b (not is_open && has_parts true name) (is_name_unit letter && has_parts false name) ≡ true → ((b : Bool) → has_parts b name ≡ true → Stops (name_in b (at + 1) (name ++ 59 ∷ rest)) name rest) → Stops (name_in is_open at ((letter ∷ name) ++ 59 ∷ rest)) (letter ∷ name) rest
+    by : (b : Bool) → eqb letter 47 ≡ b → cond b (not is_open && has_parts true name) (is_name_unit letter && has_parts false name) ≡ true → ((b : Bool) → has_parts b name ≡ true → Stops (name_in b (at + 1) (name ++ 59 ∷ rest)) name rest (at + 1 + length (name ++ 59 ∷ rest))) → Stops (name_in is_open at ((letter ∷ name) ++ 59 ∷ rest)) (letter ∷ name) rest (at + length ((letter ∷ name) ++ 59 ∷ rest))
     by true e k all =
         let p : not is_open ≡ true = (and_parts (not is_open) (has_parts true name) k).0 in
         let m : is_misplaced is_open letter ≡ false = slash_stands is_open letter p e in
         let s : eqb letter 59 ≡ false = grind (arith, nat_tests) in
         let more = all true (and_parts (not is_open) (has_parts true name) k).1 in
-        record { at = more.at; is = letter_read is_open true at letter (name ++ 59 ∷ rest) name _ m s e more.is }
+        record { at = more.at; is = letter_read is_open true at letter (name ++ 59 ∷ rest) name _ m s e more.is; place = omega (arith, more.place) }
     by false e k all =
         let p : is_name_unit letter ≡ true = (and_parts (is_name_unit letter) (has_parts false name) k).0 in
         let m : is_misplaced is_open letter ≡ false = letter_stands is_open letter p e in
         let s : eqb letter 59 ≡ false = letter_goes_on letter p in
         let more = all false (and_parts (is_name_unit letter) (has_parts false name) k).1 in
-        record { at = more.at; is = letter_read is_open false at letter (name ++ 59 ∷ rest) name _ m s e more.is }
+        record { at = more.at; is = letter_read is_open false at letter (name ++ 59 ∷ rest) name _ m s e more.is; place = omega (arith, more.place) }
 
 -- ---- bases
 
@@ -156,17 +157,18 @@ base_takes at letter rest x e = by (plain letter) refl e
     by (Some b) h k = (let j : (b, record { at = at + 1; rest = rest }) ≡ x = cc in subst (λ (z : Base × Place). BaseTakes (letter ∷ rest) z.0 z.1.rest) j (plain_takes letter b rest h))
     by None h k = other (eqb letter 76) (eqb letter 70 || eqb letter 68) refl k
 
-base_again : (at : ℕ) (b : Base) (rest : List ℕ) (dims : ℕ) → IsBase b → Stops (field_in dims at (spelled_base b ++ rest)) (record { dims = dims; base = b }) rest
+base_again : (at : ℕ) (b : Base) (rest : List ℕ) (dims : ℕ) → IsBase b → Stops (field_in dims at (spelled_base b ++ rest)) (record { dims = dims; base = b }) rest (at + length (spelled_base b ++ rest))
 unfolding base_in
-base_again at Boolean rest dims h = record { at = at + 1; is = refl }
-base_again at Byte rest dims h = record { at = at + 1; is = refl }
-base_again at Char rest dims h = record { at = at + 1; is = refl }
-base_again at Short rest dims h = record { at = at + 1; is = refl }
-base_again at Int rest dims h = record { at = at + 1; is = refl }
-base_again at Long rest dims h = record { at = at + 1; is = refl }
+base_again at Boolean rest dims h = record { at = at + 1; is = refl; place = omega arith }
+base_again at Byte rest dims h = record { at = at + 1; is = refl; place = omega arith }
+base_again at Char rest dims h = record { at = at + 1; is = refl; place = omega arith }
+base_again at Short rest dims h = record { at = at + 1; is = refl; place = omega arith }
+base_again at Int rest dims h = record { at = at + 1; is = refl; place = omega arith }
+base_again at Long rest dims h = record { at = at + 1; is = refl; place = omega arith }
 base_again at (Object name) rest dims h =
     let n = name_again true (at + 1) name rest (parts_are name ∙ h) in
-    record { at = n.at; is = rw (append_assoc name (59 ∷ []) rest, n.is) refl }
+    let l = ap length (append_assoc name (59 ∷ []) rest) in
+    record { at = n.at; is = rw (append_assoc name (59 ∷ []) rest, n.is) refl; place = omega (arith, n.place, l) }
 
 -- ---- fields
 
@@ -186,23 +188,23 @@ dims_takes dims text (Err fault) x l all e = absurd cc
 
 pub field_takes : (dims at : ℕ) (text : List ℕ) (x : FieldShape × Place) → dims < 256 → field_in dims at text ≡ Ok x → FieldTakes dims text x.0 x.1.rest
 field_takes dims at [] x l e = absurd cc
-field_takes dims at (letter ∷ text) x l e = by (eqb letter 91) (ltb dims 255) refl refl e (λ m h. field_takes (dims + 1) (at + 1) text x m h)
+field_takes dims at (letter ∷ text) x l e = by (eqb letter 91) (ltb dims 255) _ refl refl e (λ m h. field_takes (dims + 1) (at + 1) text x m h)
   where
-    by : (a b : Bool) → eqb letter 91 ≡ a → ltb dims 255 ≡ b → cond a (cond b (field_in (dims + 1) (at + 1) text) (Err (BadLetter at))) (with_dims dims (base_in at letter text)) ≡ Ok x → (dims + 1 < 256 → field_in (dims + 1) (at + 1) text ≡ Ok x → FieldTakes (dims + 1) text x.0 x.1.rest) → FieldTakes dims (letter ∷ text) x.0 x.1.rest
-    by true true h k f all = (
+    by : (a b : Bool) (other : DescFault) → eqb letter 91 ≡ a → ltb dims 255 ≡ b → cond a (cond b (field_in (dims + 1) (at + 1) text) (Err other)) (with_dims dims (base_in at letter text)) ≡ Ok x → (dims + 1 < 256 → field_in (dims + 1) (at + 1) text ≡ Ok x → FieldTakes (dims + 1) text x.0 x.1.rest) → FieldTakes dims (letter ∷ text) x.0 x.1.rest
+    by true true other h k f all = (
         let m : dims + 1 < 256 = grind (arith, nat_tests) in
         let g = all m f in
         let n : letter ≡ 91 = grind (arith, nat_tests) in
         record { more = suc g.more; dims_are = omega (arith, g.dims_are); few = g.few; fits = g.fits; front = rw (n, g.front) refl })
-    by true false h k f all = absurd cc
-    by false b h k f all = dims_takes dims (letter ∷ text) (base_in at letter text) x l (λ y t. base_takes at letter text y t) f
+    by true false other h k f all = absurd cc
+    by false b other h k f all = dims_takes dims (letter ∷ text) (base_in at letter text) x l (λ y t. base_takes at letter text y t) f
 
-pub field_again : (n dims total at : ℕ) (b : Base) (rest : List ℕ) → total ≡ n + dims → total < 256 → IsBase b → Stops (field_in dims at (replicate n 91 ++ (spelled_base b ++ rest))) (record { dims = total; base = b }) rest
-field_again zero dims total at b rest e l h = let k : dims ≡ total = omega arith in subst (λ (d : ℕ). Stops (field_in dims at (spelled_base b ++ rest)) (record { dims = d; base = b }) rest) k (base_again at b rest dims h)
+pub field_again : (n dims total at : ℕ) (b : Base) (rest : List ℕ) → total ≡ n + dims → total < 256 → IsBase b → Stops (field_in dims at (replicate n 91 ++ (spelled_base b ++ rest))) (record { dims = total; base = b }) rest (at + length (replicate n 91 ++ (spelled_base b ++ rest)))
+field_again zero dims total at b rest e l h = let k : dims ≡ total = omega arith in subst (λ (d : ℕ). Stops (field_in dims at (spelled_base b ++ rest)) (record { dims = d; base = b }) rest (at + length (spelled_base b ++ rest))) k (base_again at b rest dims h)
 field_again (suc n) dims total at b rest e l h =
     let g = field_again n (dims + 1) total (at + 1) b rest (omega arith) l h in
     let t : ltb dims 255 ≡ true = grind (arith, nat_tests) in
-    record { at = g.at; is = rw t g.is }
+    record { at = g.at; is = rw t g.is; place = omega (arith, g.place) }
 
 -- ---- a whole text
 

@@ -3,3 +3,8 @@ pub mod Units
 pub mod Names
 pub mod Descriptors
 pub mod Methods
+pub mod Told
+pub mod FieldFaults
+pub mod MethodFaults
+pub mod OneFault
+pub mod Faults

@@ -20,11 +20,11 @@ next_is letter [] e = absurd cc
 next_is letter (other ∷ text) e = ap (λ (z : ℕ). z ∷ text) (grind (arith, nat_tests))
 
 -- no field begins with a closing bracket or with V
-record NoMark (text : List ℕ) : Type 0 where
-  no_bracket : is_next 41 text ≡ false
-  no_v : is_next 86 text ≡ false
+pub record NoMark (text : List ℕ) : Type 0 where
+  pub no_bracket : is_next 41 text ≡ false
+  pub no_v : is_next 86 text ≡ false
 
-field_begins : (dims : ℕ) (b : Base) (rest : List ℕ) → NoMark (replicate dims 91 ++ (spelled_base b ++ rest))
+pub field_begins : (dims : ℕ) (b : Base) (rest : List ℕ) → NoMark (replicate dims 91 ++ (spelled_base b ++ rest))
 field_begins (suc dims) b rest = record { no_bracket = refl; no_v = refl }
 field_begins zero Boolean rest = record { no_bracket = refl; no_v = refl }
 field_begins zero Byte rest = record { no_bracket = refl; no_v = refl }
@@ -36,11 +36,11 @@ field_begins zero (Object name) rest = record { no_bracket = refl; no_v = refl }
 
 -- ---- what is read is spelled so
 
-record FieldFront (text : List ℕ) (field : FieldShape) (rest : List ℕ) : Type 0 where
-  fits : IsField field
-  front : text ≡ spelled_field field ++ rest
+pub record FieldFront (text : List ℕ) (field : FieldShape) (rest : List ℕ) : Type 0 where
+  pub fits : IsField field
+  pub front : text ≡ spelled_field field ++ rest
 
-field_front : (at : ℕ) (text : List ℕ) (x : FieldShape × Place) → field_in 0 at text ≡ Ok x → FieldFront text x.0 x.1.rest
+pub field_front : (at : ℕ) (text : List ℕ) (x : FieldShape × Place) → field_in 0 at text ≡ Ok x → FieldFront text x.0 x.1.rest
 field_front at text x e =
     let t = field_takes 0 at text x (omega arith) e in
     let m : t.more ≡ x.0.dims = omega (arith, t.dims_are) in
@@ -129,23 +129,23 @@ unfolding method_of
 method_found [] method e = absurd cc
 method_found (letter ∷ text) method e =
     let z : (length (letter ∷ text) == 0) ≡ false = grind (arith, nat_tests) in
-    by (letter == 40) refl (rw z at e)
+    by (letter == 40) _ refl (rw z at e)
   where
-    by : (b : Bool) → (letter == 40) ≡ b → cond b (method_in 1 text) (Err (BadLetter 0)) ≡ Ok method → MethodFound (letter ∷ text) method
-    by true n h =
+    by : (b : Bool) (other : DescFault) → (letter == 40) ≡ b → cond b (method_in 1 text) (Err other) ≡ Ok method → MethodFound (letter ∷ text) method
+    by true other n h =
         let t = method_takes 1 text method h in
         let k : letter ≡ 40 = grind (arith, nat_tests) in
         record { few = omega (arith, t.few); fits = t.fits; is = rw (k, t.front) refl }
-    by false n h = absurd cc
+    by false other n h = absurd cc
 
 -- ---- what is spelled so is read
 
 params_read : (most at : ℕ) (text : List ℕ) (field : FieldShape) (params : List FieldShape) (q r : Place) → is_next 41 text ≡ false → field_in 0 at text ≡ Ok (field, q) → params_in most q.at q.rest ≡ Ok (params, r) → params_in (suc most) at text ≡ Ok (field ∷ params, r)
 params_read most at text field params q r n f h = rw (n, f, h) refl
 
-pub params_again : (params : List FieldShape) (most at : ℕ) (rest : List ℕ) → All IsField params → length (flat_map spelled_field params ++ 41 ∷ rest) ≤ most → Stops (params_in most at (flat_map spelled_field params ++ 41 ∷ rest)) params rest
+pub params_again : (params : List FieldShape) (most at : ℕ) (rest : List ℕ) → All IsField params → length (flat_map spelled_field params ++ 41 ∷ rest) ≤ most → Stops (params_in most at (flat_map spelled_field params ++ 41 ∷ rest)) params rest (at + length (flat_map spelled_field params ++ 41 ∷ rest))
 params_again [] zero at rest a l = absurd (omega arith)
-params_again [] (suc most) at rest a l = record { at = at + 1; is = refl }
+params_again [] (suc most) at rest a l = record { at = at + 1; is = refl; place = omega arith }
 params_again (field ∷ params) zero at rest a l = absurd (omega (arith, length-append (flat_map spelled_field (field ∷ params)) (41 ∷ rest)))
 params_again (field ∷ params) (suc most) at rest a l =
     let fits = All-head IsField field params a in
@@ -155,14 +155,16 @@ params_again (field ∷ params) (suc most) at rest a l =
     let n : length (flat_map spelled_field (field ∷ params) ++ 41 ∷ rest) ≡ length (spelled_field field) + length more = ap length f ∙ length-append (spelled_field field) more in
     let s = field_again field.dims 0 field.dims at field.base more (omega arith) fits.0 fits.1 in
     let g = params_again params most s.at rest (All-tail IsField field params a) (omega (arith, l, n, some_letters field)) in
-    subst (λ (t : List ℕ). Stops (params_in (suc most) at t) (field ∷ params) rest) (sym e) (record { at = g.at; is = params_read most at (replicate field.dims 91 ++ (spelled_base field.base ++ more)) field params _ _ (field_begins field.dims field.base more).no_bracket s.is g.is })
+    subst (λ (t : List ℕ). Stops (params_in (suc most) at t) (field ∷ params) rest (at + length t)) (sym e) (record { at = g.at; is = params_read most at (replicate field.dims 91 ++ (spelled_base field.base ++ more)) field params _ _ (field_begins field.dims field.base more).no_bracket s.is g.is; place = g.place ∙ s.place })
 
-pub result_again : (at : ℕ) (result : Option FieldShape) → IfSome result IsField → Stops (result_in at (spelled_result result)) result []
-result_again at None h = record { at = at + 1; is = refl }
-result_again at (Some field) h =
-    let e : replicate field.dims 91 ++ (spelled_base field.base ++ []) ≡ spelled_field field = ap (λ (b : List ℕ). replicate field.dims 91 ++ b) (append-nil (spelled_base field.base)) in
-    let s = field_again field.dims 0 field.dims at field.base [] (omega arith) h.0 h.1 in
-    subst (λ (t : List ℕ). Stops (result_in at t) (Some field) []) e (record { at = s.at; is = rw ((field_begins field.dims field.base []).no_v, s.is) refl })
+pub result_front : (at : ℕ) (result : Option FieldShape) (rest : List ℕ) → IfSome result IsField → Stops (result_in at (spelled_result result ++ rest)) result rest (at + length (spelled_result result ++ rest))
+result_front at None rest h = record { at = at + 1; is = refl; place = omega arith }
+result_front at (Some field) rest h =
+    let s = field_again field.dims 0 field.dims at field.base rest (omega arith) h.0 h.1 in
+    subst (λ (t : List ℕ). Stops (result_in at t) (Some field) rest (at + length t)) (sym (append_assoc (replicate field.dims 91) (spelled_base field.base) rest)) (record { at = s.at; is = rw ((field_begins field.dims field.base rest).no_v, s.is) refl; place = s.place })
+
+pub result_again : (at : ℕ) (result : Option FieldShape) → IfSome result IsField → Stops (result_in at (spelled_result result)) result [] (at + length (spelled_result result))
+result_again at result h = subst (λ (t : List ℕ). Stops (result_in at t) result [] (at + length t)) (append-nil (spelled_result result)) (result_front at result [] h)
 
 pub method_only : (text : List ℕ) (method : MethodShape) → IsMethod method → text ≡ spelled_method method → method_of text ≡ Ok method
 unfolding method_of

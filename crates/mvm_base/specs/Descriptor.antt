@@ -1,4 +1,5 @@
--- Descriptors (JVM Specification 4.3.2 and 4.3.3): how a shape is spelled, and where a text that spells none goes wrong.
+-- Descriptors (JVM Specification 4.3.2 and 4.3.3): how a shape is spelled, and how a reader finds the shape or the fault. What the faults
+-- mean stands in DescriptorFaults.
 use Rattle.std.specs.Prelude.{◌≡◌, ℕ, zero, suc, ◌+◌, ◌<◌, List, [], ◌∷◌, ◌++◌, length, drop, Bool, true, false, IsTrue, not, nat_lt, ◌&&◌, ◌||◌, ◌==◌, if◌then◌else◌, flat_map, replicate, sum_by, All, IfSome, Option, Some, None, Result, Ok, Err}
 use Rattle.mvm_base.specs.ClassName.{is_binary_name}
 use Rattle.mvm_base.specs.Place.{Place}
@@ -59,7 +60,7 @@ slots_of field = if field.dims == 0 && is_long field.base then 2 else 1
 abbrev pub slots : List FieldShape → ℕ
 slots params = sum_by slots_of params
 
--- ---- how a text is read, or its first fault
+-- ---- how a text is read, or its fault told
 
 abbrev pub with_letter : ℕ → Result (List ℕ × Place) DescFault → Result (List ℕ × Place) DescFault
 with_letter letter (Ok x) = Ok (letter ∷ x.0, x.1)
@@ -117,7 +118,7 @@ field_in dims at (letter ∷ rest) =
 abbrev pub ended : {A : Type 0} → A × Place → Result A DescFault
 ended x = if length x.1.rest == 0 then Ok x.0 else Err Trailing
 
--- the shape that a whole text spells, or its first fault
+-- the shape that a whole text spells, or its fault
 unfoldable pub field_of : List ℕ → Result FieldShape DescFault
 field_of text = if length text == 0 then Err Empty else (field_in 0 0 text >>= ended)
 
@@ -152,7 +153,7 @@ after_params x = result_in x.1.at x.1.rest >>= λ y. Ok (record { params = x.0; 
 abbrev pub method_in : ℕ → List ℕ → Result MethodShape DescFault
 method_in at text = params_in (length text) at text >>= after_params >>= ended
 
--- the shape that a whole text spells, or its first fault
+-- the shape that a whole text spells, or its fault
 unfoldable pub method_of : List ℕ → Result MethodShape DescFault
 method_of text =
     if length text == 0 then Err Empty else (

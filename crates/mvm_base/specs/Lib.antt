@@ -2,6 +2,7 @@ pub mod Answers
 pub mod Bytes
 pub mod ClassName
 pub mod Descriptor
+pub mod DescriptorFaults
 pub mod ModifiedUtf8
 pub mod Place
 pub mod Rules

@@ -1,6 +1,7 @@
-ghost use Rattle.std.specs.Prelude.{◌≡◌, ◌<◌, ◌^◌, ◌∷◌, [], ◌+◌, length, drop, ◌==◌, true, false, Ok, Err, Option, Some, None, IfOk, IfSome, IfNone};
+ghost use Rattle.std.specs.Prelude.{◌≡◌, ◌≢◌, ◌<◌, ◌^◌, ◌∷◌, [], ◌+◌, length, drop, ◌==◌, true, false, Ok, Err, Option, Some, None, IfOk, IfSome, IfNone};
 ghost use Rattle.mvm_base.specs.Descriptor.{spelled_field, spelled_method, IsField, IsMethod, slots_of, slots, is_next, params_in, result_in, method_in, method_of, is_misplaced, name_in, object_in, plain, base_in, field_in, field_of};
 ghost use Rattle.mvm_base.specs.Answers.{AnswersUnless, GivesUnless};
+ghost use Rattle.mvm_base.specs.DescriptorFaults.{IsFieldText, IsMethodText, HasFault};
 
 use crate::list::List;
 use crate::name::Name;
@@ -74,18 +75,19 @@ impl MethodShape {
     }
 }
 
-/// Why a text is no descriptor: its first fault from the left. Places are counted in units from 0.
+/// What is wrong with a text that is no descriptor. Places are counted in units from 0. A text has one fault.
 #[derive(Clone, Copy, Debug, PartialEq, Eq)]
 pub enum DescFault {
     /// The text has no units.
     Empty,
-    /// At this place stands a unit that can't stand there.
+    /// The units before this place begin a descriptor, and with the unit at it they begin none.
     BadLetter(u32),
-    /// The text ends inside.
+    /// The text begins a descriptor, and ends before it does.
     Open,
     /// Text follows a whole descriptor.
     Trailing,
-    /// A type is `F` or `D`, which this machine does without.
+    /// The first unit with which the text begins no descriptor is `F` or `D`, and a type can stand there. This
+    /// machine does without these types.
     Float,
     /// Memory was wanted and was not to be had. No clause says when it comes.
     OutOfMemory,
@@ -263,14 +265,18 @@ fn whole_field(alloc: Global, text: &Name) -> Result<FieldShape, DescFault>
     }
 }
 
-/// The shape that a field descriptor spells (JVM Specification 4.3.2), or its first fault.
+/// The shape that a field descriptor spells (JVM Specification 4.3.2), or what is wrong with the text.
 pub fn parse_field(alloc: Global, text: &Name) -> Result<FieldShape, DescFault>
     requires { length text.now < 2 ^ 32 }
     // What is parsed is spelled so.
     ensures found { IfOk result (λ field. IsField field × (text.now ≡ spelled_field field)) }
     // What is spelled so is parsed, unless memory runs out.
     ensures only { (field : FieldShape) → IsField field → text.now ≡ spelled_field field → AnswersUnless DescFault.OutOfMemory result (Ok field) }
-    // Which fault it is.
+    // What is wrong with a text that is refused.
+    ensures fault { (fault : DescFault) → result ≡ Err fault → fault ≢ DescFault.OutOfMemory → HasFault IsFieldText text.now fault }
+    // What is wrong so is refused so, unless memory runs out.
+    ensures fault_only { (fault : DescFault) → HasFault IsFieldText text.now fault → AnswersUnless DescFault.OutOfMemory result (Err fault) }
+    // The same, by the reader's definition.
     ensures exact { AnswersUnless DescFault.OutOfMemory result (field_of text.now) }
 {
     whole_field(alloc, text)
@@ -338,14 +344,18 @@ fn whole_method(alloc: Global, text: &Name) -> Result<MethodShape, DescFault>
     whole_rest(alloc, &mut letters)
 }
 
-/// The shape that a method descriptor spells (JVM Specification 4.3.3), or its first fault.
+/// The shape that a method descriptor spells (JVM Specification 4.3.3), or what is wrong with the text.
 pub fn parse_method(alloc: Global, text: &Name) -> Result<MethodShape, DescFault>
     requires { length text.now < 2 ^ 32 }
     // What is parsed is spelled so.
     ensures found { IfOk result (λ method. IsMethod method × (text.now ≡ spelled_method method)) }
     // What is spelled so is parsed, unless memory runs out.
     ensures only { (method : MethodShape) → IsMethod method → text.now ≡ spelled_method method → AnswersUnless DescFault.OutOfMemory result (Ok method) }
-    // Which fault it is.
+    // What is wrong with a text that is refused.
+    ensures fault { (fault : DescFault) → result ≡ Err fault → fault ≢ DescFault.OutOfMemory → HasFault IsMethodText text.now fault }
+    // What is wrong so is refused so, unless memory runs out.
+    ensures fault_only { (fault : DescFault) → HasFault IsMethodText text.now fault → AnswersUnless DescFault.OutOfMemory result (Err fault) }
+    // The same, by the reader's definition.
     ensures exact { AnswersUnless DescFault.OutOfMemory result (method_of text.now) }
     // Each parameter takes a letter at least.
     ensures short { IfOk result (λ method. length method.params < 2 ^ 32) }

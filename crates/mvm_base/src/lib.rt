@@ -1,5 +1,5 @@
-//! What every other crate stands on: lists, names and lines that contracts see as plain lists, a cursor
-//! over bytes, the modified UTF-8 of names, descriptors, a counter of steps, and the words that contracts share.
+//! Ground: lists, names and lines that contracts see as plain lists, a cursor over bytes, modified UTF-8, the names
+//! of classes, descriptors, a counter of steps, the kinds of values, and the words that contracts share.
 //!
 //! To the layers above it promises: each of these types is, to a clause, the value that it stands for and
 //! nothing else (no capacity, no pointer, no place in a buffer), and each call says exactly what it does to that
@@ -7,14 +7,17 @@
 //! it is refused the value is as before.
 //!
 //! Of descriptors (JVM Specification 4.3.2 and 4.3.3) it promises: what is parsed is spelled so, what is spelled
-//! so is parsed unless memory runs out, and any other text is refused with its first fault from the left. `F` and
-//! `D` are faults of their own, since this machine does without them. A long takes two slots, any other type one.
+//! so is parsed unless memory runs out, and any other text is refused with the one fault that it has: it is empty, a
+//! descriptor stands at its front and more follows, it ends inside one, or at a place, which is told, it stops being
+//! the beginning of one. `F` and `D` there are a fault of their own, without the place, since this machine does
+//! without them. A long takes two slots, any other type one.
 #![tactic(auto)]
 
 mod class_name;
 mod cursor;
 mod descriptor;
 mod job;
+mod laws;
 mod line;
 mod list;
 mod memory;
@@ -27,6 +30,7 @@ pub use class_name::is_binary_name;
 pub use cursor::Cursor;
 pub use descriptor::{Base, DescFault, FieldShape, MethodShape, parse_field, parse_method};
 pub use job::Job;
+pub use laws::descriptor_law;
 pub use line::Line;
 pub use list::List;
 pub use memory::OutOfMemory;

@@ -1,3 +1,4 @@
+use Rattle.mvm_base.proofs.Faults.{method_told_fault, method_fault_told}
 use Rattle.mvm_base.proofs.Methods.{method_answers, method_answers_only, method_answers_few}
 use Rattle.mvm_base.proofs.descriptor.parse_method.Goals as goal
 
@@ -9,3 +10,9 @@ returns-clause-only c = λ method h e. method_answers_only c.args.text.now c.who
 
 pub returns-clause-short : goal.returns-clause-short
 returns-clause-short c = method_answers_few c.args.text.now c.whole_method.result c.requires c.whole_method.ensures
+
+pub returns-clause-fault : goal.returns-clause-fault
+returns-clause-fault c = method_told_fault c.args.text.now c.whole_method.result c.whole_method.ensures
+
+pub returns-clause-fault_only : goal.returns-clause-fault_only
+returns-clause-fault_only c = method_fault_told c.args.text.now c.whole_method.result c.whole_method.ensures
