@@ -3,10 +3,11 @@ use Rattle.std.proofs.Common.{◌≡◌, ◌<◌, ◌≤◌, ℕ, ◌+◌, Bool,
 use Rattle.std.proofs.lemmas.Bool.{eqb-true, eqb-false}
 use Rattle.std.proofs.lemmas.List.{append-nil, length-append, nil_from_length}
 use Rattle.mvm_base.specs.Place.{Place}
-use Rattle.mvm_first_form.specs.Answers.{Fails}
+use Rattle.mvm_base.specs.Answers.{Fails}
 use Rattle.mvm_first_form.specs.Opcodes.{instruction}
 use Rattle.mvm_first_form.specs.File.{AreInstructions}
 use Rattle.mvm_first_form.specs.declared.unread.Unread.{Unread}
+use Rattle.mvm_first_form.specs.declared.unread.Unread.TheVariants.{OutOfMemory}
 use Rattle.mvm_first_form.specs.declared.instruction.Instruction.{Instruction}
 use Rattle.mvm_first_form.specs.declared.parts.Placed.{Placed}
 use Rattle.mvm_first_form.proofs.Exactness.{done, ok_is}
@@ -99,7 +100,7 @@ cut-only bytes all p xs c none h = let b = c.only xs h in ap (λ (zs : List Plac
     ended [] k = refl
     ended (y ∷ ys) k = absurd (let long = spelled-long p.at y.instruction k.0 k.3 in omega (arith, ap length k.5, length-append k.0 k.1))
 
-pub cut-fails : (bytes : List ℕ) (all : List Placed) (p : Place) (xs : List Placed) (fault : Unread) → Cut bytes all p → 0 < length p.rest → ((instruction p.at).read p ≡ Err fault) → AreInstructions 0 xs bytes → Fails fault (done xs)
+pub cut-fails : (bytes : List ℕ) (all : List Placed) (p : Place) (xs : List Placed) (fault : Unread) → Cut bytes all p → 0 < length p.rest → ((instruction p.at).read p ≡ Err fault) → AreInstructions 0 xs bytes → Fails OutOfMemory fault (done xs)
 cut-fails bytes all p xs fault c some h k = λ other. (let b = c.only xs k in let n = next p b.more b.rest some in absurd cc)
 
 pub not_ended : (n : ℕ) (b : Bool) → b ≡ eqb n 0 → b ≡ false → 0 < n

@@ -2,7 +2,6 @@ pub mod Exactness
 pub mod Loops
 pub mod Instructions
 pub mod Layouts
-pub mod Names
 pub mod Cuts
 pub mod Marking
 pub mod Whole

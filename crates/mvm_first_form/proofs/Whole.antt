@@ -3,10 +3,11 @@ use Rattle.std.proofs.Common.{◌≡◌, ℕ, ◌+◌, true, false, IsTrue, eqb,
 use Rattle.std.proofs.lemmas.Bool.{eqb-true}
 use Rattle.std.proofs.lemmas.List.{append-nil, nil_from_length}
 use Rattle.mvm_base.specs.Place.{Place}
-use Rattle.mvm_first_form.specs.Answers.{Fails}
+use Rattle.mvm_base.specs.Answers.{Fails}
 use Rattle.mvm_first_form.specs.Format.{kept}
 use Rattle.mvm_first_form.specs.File.{layout, parsed, keeps_rules, HasSoundCode, form_of, IsFirstForm}
 use Rattle.mvm_first_form.specs.declared.unread.Unread.{Unread}
+use Rattle.mvm_first_form.specs.declared.unread.Unread.TheVariants.{OutOfMemory}
 use Rattle.mvm_first_form.specs.declared.parts.Parts.{Parts}
 use Rattle.mvm_first_form.specs.declared.parts.FirstForm.{FirstForm}
 use Rattle.mvm_first_form.proofs.Exactness.{done, ok_is, bind_ok, kept_ok}
@@ -41,13 +42,13 @@ has_parts text parts form p r = ok_is r.parts parts (sym (parsed-complete text r
 pub only_form : (text : List ℕ) (parts : Parts) (form : FirstForm) → parsed text ≡ Ok parts → IsFirstForm text form → form ≡ form_of parts
 only_form text parts form p r = r.form_is ∙ ap (λ (x : Parts). form_of x) (has_parts text parts form p r)
 
-pub only_parsed : (text : List ℕ) (form : FirstForm) (fault : Unread) → Fails fault (parsed text) → IsFirstForm text form → Fails fault (done form)
+pub only_parsed : (text : List ℕ) (form : FirstForm) (fault : Unread) → Fails OutOfMemory fault (parsed text) → IsFirstForm text form → Fails OutOfMemory fault (done form)
 only_parsed text form fault h r = λ other. (let e = sym (parsed-complete text r.parts r.spelled) ∙ h other in absurd cc)
 
 pub only_rules : (text : List ℕ) (parts : Parts) (form : FirstForm) → parsed text ≡ Ok parts → keeps_rules parts ≡ false → IsFirstForm text form → ⊥
 only_rules text parts form p rules r = let e : keeps_rules parts ≡ true = subst (λ (x : Parts). keeps_rules x ≡ true) (has_parts text parts form p r) r.rules in cc
 
-pub only_code : (text : List ℕ) (parts : Parts) (form : FirstForm) (fault : Unread) → parsed text ≡ Ok parts → (HasSoundCode parts → Fails fault (done {A = Unit {0}} tt)) → IsFirstForm text form → Fails fault (done form)
+pub only_code : (text : List ℕ) (parts : Parts) (form : FirstForm) (fault : Unread) → parsed text ≡ Ok parts → (HasSoundCode parts → Fails OutOfMemory fault (done {A = Unit {0}} tt)) → IsFirstForm text form → Fails OutOfMemory fault (done form)
 only_code text parts form fault p h r = λ other. (
     let code : HasSoundCode parts = subst HasSoundCode (has_parts text parts form p r) r.code in
     let e = h code other in absurd cc)

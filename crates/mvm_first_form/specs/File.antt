@@ -8,6 +8,7 @@ use Rattle.mvm_first_form.specs.Format.{Format, bytes, number, followed, mapped,
 use Rattle.mvm_first_form.specs.Opcodes.{between, second, instruction}
 use Rattle.mvm_first_form.specs.Pool.{text, class_name, is_text, is_linked, is_println}
 use Rattle.mvm_first_form.specs.ClassName.{is_class_name}
+use Rattle.mvm_first_form.specs.declared.rules.TheConstants.{MOST_FRAME_WORDS}
 use Rattle.mvm_first_form.specs.declared.unread.Unread.{Unread}
 use Rattle.mvm_first_form.specs.declared.unread.Unread.TheVariants.{OtherForm}
 use Rattle.mvm_first_form.specs.declared.instruction.Instruction.{Instruction}
@@ -130,7 +131,7 @@ abbrev pub is_named_as_class : Option (List ℕ) → Bool
 is_named_as_class (Some name) = is_class_name name
 is_named_as_class None = false
 
--- `public static void main(String[])`, with room for its argument, and with a frame of at most 8,192 words
+-- `public static void main(String[])`, with room for its argument, and with a frame of no more words than it may have
 unfoldable pub is_main : List Item → Method → Bool
 is_main pool method =
     method.flags == 0x0009
@@ -138,7 +139,7 @@ is_main pool method =
     && is_text (codes "([Ljava/lang/String;)V") (text pool method.descriptor)
     && is_text (codes "Code") (text pool method.attribute)
     && nat_le 1 method.code.max_locals
-    && nat_le (method.code.max_locals + method.code.max_stack) 8192
+    && nat_le (method.code.max_locals + method.code.max_stack) MOST_FRAME_WORDS
 
 -- the rules but those on the instructions
 unfoldable pub keeps_rules : Parts → Bool

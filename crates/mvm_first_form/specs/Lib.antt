@@ -1,5 +1,4 @@
 pub mod CodeParts
-pub mod Answers
 pub mod Format
 pub mod Opcodes
 pub mod Pool

@@ -1,6 +1,10 @@
 ghost use Rattle.std.specs.Prelude.{◌≡◌};
-ghost use Rattle.std.specs.List.{list_all};
-ghost use Rattle.mvm_first_form.specs.ClassName.{parts_of, is_name_unit, is_part, is_reserved, is_class_name};
+ghost use Rattle.mvm_first_form.specs.ClassName.{is_reserved, is_class_name};
+
+use mvm_base::is_binary_name;
+
+/// How many units the name of a class may have at most.
+pub const MOST_NAME_UNITS: usize = 255;
 
 /// `java/`
 const JAVA: [u16; 5] = [0x6a, 0x61, 0x76, 0x61, 0x2f];
@@ -10,32 +14,6 @@ const JAVAX: [u16; 6] = [0x6a, 0x61, 0x76, 0x61, 0x78, 0x2f];
 
 /// `mvm/`
 const MVM: [u16; 4] = [0x6d, 0x76, 0x6d, 0x2f];
-
-fn is_name_unit(unit: u16) -> bool
-    ensures { result ≡ is_name_unit unit }
-{
-    unit != 0x2e && unit != 0x3b && unit != 0x5b
-}
-
-fn has_parts(name: &[u16]) -> bool
-    ensures { result ≡ list_all is_part (parts_of name.now) }
-{
-    let mut is_empty = true;
-    for unit in name {
-        if *unit == 0x2f {
-            if is_empty {
-                return false;
-            }
-            is_empty = true;
-        } else {
-            if !is_name_unit(*unit) {
-                return false;
-            }
-            is_empty = false;
-        }
-    }
-    !is_empty
-}
 
 fn is_reserved(name: &[u16]) -> bool
     ensures { result ≡ is_reserved name.now }
@@ -48,8 +26,8 @@ fn is_reserved(name: &[u16]) -> bool
 pub(crate) fn is_class_name(name: &[u16]) -> bool
     ensures { result ≡ is_class_name name.now }
 {
-    if name.is_empty() || name.len() > 255 {
+    if name.is_empty() || name.len() > MOST_NAME_UNITS {
         return false;
     }
-    has_parts(name) && !is_reserved(name)
+    is_binary_name(name) && !is_reserved(name)
 }

@@ -1,7 +1,6 @@
 ghost use Rattle.std.specs.Prelude.{◌≡◌, ◌<◌, ◌^◌, length, IfOk, MatchResult, Ok, Err};
 ghost use Rattle.std.specs.List.{list_all};
-ghost use Rattle.mvm_base.specs.Answers.{Gives};
-ghost use Rattle.mvm_first_form.specs.Answers.{GivesInMemory};
+ghost use Rattle.mvm_base.specs.Answers.{Gives, GivesUnless};
 ghost use Rattle.mvm_first_form.specs.Format.{Format, bytes, number, times};
 ghost use Rattle.mvm_first_form.specs.Opcodes.{between};
 ghost use Rattle.mvm_first_form.specs.File.{utf8, tagged, item, pool, none, one, instructions, code, attribute, method, magic, members, layout};
@@ -57,7 +56,7 @@ fn units(alloc: Global, bytes: &[u8]) -> Result<Name, AllocError>
 
 #[tactic(auto, unfolding(crate::specs::File::utf8))]
 fn utf8(alloc: Global, cursor: &mut Cursor) -> Result<Name, Unread>
-    ensures { GivesInMemory result (utf8.read cursor.old) cursor.new }
+    ensures { GivesUnless Unread.OutOfMemory result (utf8.read cursor.old) cursor.new }
 {
     let n = u2(cursor)?;
     let bytes = run(cursor, u32::from(n))?;
@@ -69,7 +68,7 @@ fn utf8(alloc: Global, cursor: &mut Cursor) -> Result<Name, Unread>
 
 #[tactic(auto, unfolding(crate::specs::File::tagged))]
 fn tagged(alloc: Global, cursor: &mut Cursor, tag: u8) -> Result<Item, Unread>
-    ensures { GivesInMemory result ((tagged tag).read cursor.old) cursor.new }
+    ensures { GivesUnless Unread.OutOfMemory result ((tagged tag).read cursor.old) cursor.new }
 {
     match tag {
         1 => {
@@ -96,14 +95,14 @@ fn tagged(alloc: Global, cursor: &mut Cursor, tag: u8) -> Result<Item, Unread>
 
 #[tactic(auto, unfolding(crate::specs::File::item))]
 fn item(alloc: Global, cursor: &mut Cursor) -> Result<Item, Unread>
-    ensures { GivesInMemory result (item.read cursor.old) cursor.new }
+    ensures { GivesUnless Unread.OutOfMemory result (item.read cursor.old) cursor.new }
 {
     let tag = u1(cursor)?;
     tagged(alloc, cursor, tag)
 }
 
 fn items(alloc: Global, cursor: &mut Cursor, count: u16) -> Result<List<Item>, Unread>
-    ensures { GivesInMemory result ((times count item).read cursor.old) cursor.new }
+    ensures { GivesUnless Unread.OutOfMemory result ((times count item).read cursor.old) cursor.new }
 {
     let mut all = List::new(alloc);
     for i in 0..count {
@@ -115,7 +114,7 @@ fn items(alloc: Global, cursor: &mut Cursor, count: u16) -> Result<List<Item>, U
 
 #[tactic(auto, unfolding(crate::specs::File::pool))]
 fn pool(alloc: Global, cursor: &mut Cursor) -> Result<List<Item>, Unread>
-    ensures { GivesInMemory result (pool.read cursor.old) cursor.new }
+    ensures { GivesUnless Unread.OutOfMemory result (pool.read cursor.old) cursor.new }
 {
     let count = u2(cursor)?;
     if count < 1 {
@@ -146,7 +145,7 @@ fn one(cursor: &mut Cursor) -> Result<u16, Unread>
 
 #[tactic(auto, unfolding(crate::specs::File::instructions))]
 fn instructions(alloc: Global, cursor: &mut Cursor) -> Result<List<u8>, Unread>
-    ensures gives { GivesInMemory result (instructions.read cursor.old) cursor.new }
+    ensures gives { GivesUnless Unread.OutOfMemory result (instructions.read cursor.old) cursor.new }
     ensures short { IfOk result (λ x. length x < 2 ^ 16) }
 {
     let n = u4(cursor)?;
@@ -159,7 +158,7 @@ fn instructions(alloc: Global, cursor: &mut Cursor) -> Result<List<u8>, Unread>
 
 #[tactic(auto, unfolding(crate::specs::File::code))]
 fn code(alloc: Global, cursor: &mut Cursor) -> Result<Code, Unread>
-    ensures { GivesInMemory result (code.read cursor.old) cursor.new }
+    ensures { GivesUnless Unread.OutOfMemory result (code.read cursor.old) cursor.new }
 {
     let max_stack = u2(cursor)?;
     let max_locals = u2(cursor)?;
@@ -171,7 +170,7 @@ fn code(alloc: Global, cursor: &mut Cursor) -> Result<Code, Unread>
 
 #[tactic(auto, unfolding(crate::specs::File::attribute))]
 fn attribute(alloc: Global, cursor: &mut Cursor) -> Result<(u32, Code), Unread>
-    ensures { GivesInMemory result (attribute.read cursor.old) cursor.new }
+    ensures { GivesUnless Unread.OutOfMemory result (attribute.read cursor.old) cursor.new }
 {
     let length = u4(cursor)?;
     let code = code(alloc, cursor)?;
@@ -183,7 +182,7 @@ fn attribute(alloc: Global, cursor: &mut Cursor) -> Result<(u32, Code), Unread>
 
 #[tactic(auto, unfolding(crate::specs::File::method))]
 fn method(alloc: Global, cursor: &mut Cursor) -> Result<Method, Unread>
-    ensures { GivesInMemory result (method.read cursor.old) cursor.new }
+    ensures { GivesUnless Unread.OutOfMemory result (method.read cursor.old) cursor.new }
 {
     let flags = u2(cursor)?;
     let name = u2(cursor)?;
@@ -213,7 +212,7 @@ fn magic(cursor: &mut Cursor) -> Result<(), Unread>
 
 #[tactic(auto, unfolding(crate::specs::File::members))]
 fn members(alloc: Global, cursor: &mut Cursor) -> Result<Method, Unread>
-    ensures { GivesInMemory result (members.read cursor.old) cursor.new }
+    ensures { GivesUnless Unread.OutOfMemory result (members.read cursor.old) cursor.new }
 {
     none(cursor)?;
     none(cursor)?;
@@ -226,7 +225,7 @@ fn members(alloc: Global, cursor: &mut Cursor) -> Result<Method, Unread>
 /// The parts that stand at the place of the cursor, which is left behind them.
 #[tactic(auto, unfolding(crate::specs::File::layout))]
 pub(crate) fn layout(alloc: Global, cursor: &mut Cursor) -> Result<Parts, Unread>
-    ensures { GivesInMemory result (layout.read cursor.old) cursor.new }
+    ensures { GivesUnless Unread.OutOfMemory result (layout.read cursor.old) cursor.new }
 {
     magic(cursor)?;
     let minor = u2(cursor)?;

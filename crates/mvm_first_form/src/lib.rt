@@ -1,4 +1,4 @@
-//! The first form: the class files (JVM Specification, chapter 4) that the machine of this stage can run.
+//! Files: the first form, the class files (JVM Specification, chapter 4) that the machine of this stage can run.
 //!
 //! To the layers above it promises: [`read_first_form`] answers `Some` exactly for the bytes that `IsFirstForm` of
 //! `specs/File.antt` admits, those that spell the layout that stands there and keep its rules, with the class that they
@@ -17,11 +17,13 @@ mod read;
 mod rules;
 mod unread;
 
+pub use class_name::MOST_NAME_UNITS;
 pub use code::Code;
 pub use instruction::{Arithmetic, Condition, Instruction};
 pub use opcodes::At;
 pub use parts::{FirstForm, Item, Method, Parts, Placed};
 pub use read::read_first_form;
+pub use rules::MOST_FRAME_WORDS;
 
 #[cfg(test)]
 mod tests;

@@ -1,7 +1,7 @@
 ghost use Rattle.std.specs.Prelude.{◌≡◌, ◌<◌, ◌^◌, [], length, unwrap_or, IfOk, IfSome, Ok, Some};
 ghost use Rattle.std.specs.Option.{IfNone};
 ghost use Rattle.mvm_first_form.specs.declared.parts.FirstForm.{FirstForm as FirstFormOf};
-ghost use Rattle.mvm_first_form.specs.Answers.{AnswersInMemory};
+ghost use Rattle.mvm_base.specs.Answers.{AnswersUnless};
 ghost use Rattle.mvm_first_form.specs.Pool.{class_name};
 ghost use Rattle.mvm_first_form.specs.File.{parsed, IsFirstForm};
 
@@ -16,7 +16,7 @@ use std::alloc::{AllocError, Global};
 #[tactic(auto, unfolding(crate::specs::File::parsed))]
 fn parsed(alloc: Global, bytes: &[u8]) -> Result<Parts, Unread>
     requires { length bytes.now < 2 ^ 32 }
-    ensures { AnswersInMemory result (parsed bytes.now) }
+    ensures { AnswersUnless Unread.OutOfMemory result (parsed bytes.now) }
 {
     let mut cursor = Cursor::new(bytes);
     let parts = layout(alloc, &mut cursor)?;
@@ -38,7 +38,7 @@ fn name_of(alloc: Global, parts: &Parts) -> Result<Name, AllocError>
 fn form_of(alloc: Global, bytes: &[u8]) -> Result<FirstForm, Unread>
     requires { length bytes.now < 2 ^ 32 }
     ensures found { IfOk result (IsFirstForm bytes.now) }
-    ensures only { (form : FirstFormOf) → IsFirstForm bytes.now form → AnswersInMemory result (Ok form) }
+    ensures only { (form : FirstFormOf) → IsFirstForm bytes.now form → AnswersUnless Unread.OutOfMemory result (Ok form) }
 {
     let parts = parsed(alloc, bytes)?;
     if !keeps_rules(&parts) {

@@ -1,6 +1,6 @@
 ghost use Rattle.std.specs.Prelude.{◌≡◌, ◌<◌, ◌-◌, ℕ, pos, List as Items, length, get_or, slice_get, false, IfOk, OnOk, Ok};
 ghost use Rattle.std.specs.List.{list_all};
-ghost use Rattle.mvm_first_form.specs.Answers.{AnswersInMemory};
+ghost use Rattle.mvm_base.specs.Answers.{AnswersUnless};
 ghost use Rattle.mvm_first_form.specs.Pool.{class_name, is_linked};
 ghost use Rattle.mvm_first_form.specs.Marks.{marked};
 ghost use Rattle.mvm_first_form.specs.File.{is_named_as_class, is_main, keeps_rules, AreInstructions, begins, is_sound, is_last, are_sound, HasSoundCode};
@@ -15,6 +15,9 @@ use crate::pool::{class_name, is_class_named, is_linked, is_println, is_text};
 use crate::unread::Unread;
 use mvm_base::{Cursor, List};
 use std::alloc::{AllocError, Global};
+
+/// How many words the frame of `main` may have at most: its local variables and its operand stack.
+pub const MOST_FRAME_WORDS: u32 = 8_192;
 
 fn are_linked(pool: &List<Item>) -> bool
     ensures { result ≡ list_all (is_linked pool.now) pool.now }
@@ -47,7 +50,7 @@ fn is_main(pool: &List<Item>, method: &Method) -> bool
         && is_text(pool, method.descriptor, b"([Ljava/lang/String;)V")
         && is_text(pool, method.attribute, b"Code")
         && max_locals >= 1
-        && words <= 8192
+        && words <= MOST_FRAME_WORDS
 }
 
 /// Whether the parts keep the rules of the first form, but for those on the instructions.
@@ -68,7 +71,7 @@ pub(crate) fn cut(alloc: Global, code: &Code) -> Result<List<Placed>, Unread>
     // What is cut so is found so.
     ensures found { IfOk result (λ placed. AreInstructions 0 placed code.now.bytes) }
     // What can be cut is found, unless memory runs out.
-    ensures only { (placed : Items PlacedOf) → AreInstructions 0 placed code.now.bytes → AnswersInMemory result (Ok placed) }
+    ensures only { (placed : Items PlacedOf) → AreInstructions 0 placed code.now.bytes → AnswersUnless Unread.OutOfMemory result (Ok placed) }
 {
     let mut cursor = Cursor::new(code.bytes());
     let mut all = List::new(alloc);
@@ -172,7 +175,7 @@ pub(crate) fn are_sound(
 /// Reads the code of `main` through, and answers `Ok` where its instructions are sound.
 pub(crate) fn check_code(alloc: Global, parts: &Parts) -> Result<(), Unread>
     ensures found { OnOk result (HasSoundCode parts.now) }
-    ensures only { HasSoundCode parts.now → AnswersInMemory result (Ok tt) }
+    ensures only { HasSoundCode parts.now → AnswersUnless Unread.OutOfMemory result (Ok tt) }
 {
     let placed = cut(alloc, &parts.main.code)?;
     let max_locals = parts.main.code.max_locals();

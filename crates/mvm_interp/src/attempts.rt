@@ -8,7 +8,7 @@ use mvm_base::OutOfMemory;
 use mvm_first_form::FirstForm;
 use std::alloc::Global;
 
-/// Runs the `main` of a class to its end, and gives what is left. It makes at most 100,000,001 attempts.
+/// Runs the `main` of a class to its end, and gives what is left. It makes at most one attempt more than `STEP_LIMIT`.
 pub fn run(alloc: Global, class: FirstForm) -> Result<Block, OutOfMemory>
     ensures { IfOk result (RunsTo class) }
 {

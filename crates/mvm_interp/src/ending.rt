@@ -4,9 +4,9 @@ ghost use Rattle.mvm_interp.specs.Ends.{end_of};
 /// A limit of an isolate.
 #[derive(Clone, Copy, Debug, PartialEq, Eq)]
 pub enum LimitKind {
-    /// Attempts of its threads: 100,000,000.
+    /// Attempts of its threads: `STEP_LIMIT`.
     Steps,
-    /// Bytes of output: 65,536.
+    /// Bytes of output: `OUTPUT_LIMIT`.
     Output,
 }
 

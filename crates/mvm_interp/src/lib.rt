@@ -1,4 +1,4 @@
-//! One class file as one isolate on one thread: its start, its bytecode one instruction at a time, and its end.
+//! Step: one class file as one isolate on one thread, with its start, its bytecode one instruction at a time, and its end.
 //!
 //! To the layer above it promises: what [`OneTask::step`] leaves of a task is what the machine of `specs/Machine.antt`
 //! gives, in every case; it takes no memory and is never refused; its work grows neither with the code nor with the
@@ -17,7 +17,8 @@ mod task;
 pub use attempts::run;
 pub use block::{Block, Uncaught};
 pub use ending::{End, LimitKind, Stepped};
-pub use task::OneTask;
+pub use output::OUTPUT_LIMIT;
+pub use task::{OneTask, START_ATTEMPTS, STEP_LIMIT};
 
 #[cfg(test)]
 mod tests;

@@ -9,7 +9,7 @@ use std::alloc::{AllocError, Global};
 use std::marker::Model;
 
 /// How many bytes of output an isolate may have.
-const OUTPUT_LIMIT: usize = 65_536;
+pub const OUTPUT_LIMIT: usize = 65_536;
 
 /// The output of an isolate, whose room is taken at the beginning.
 #[derive(Debug, Drop)]
@@ -20,12 +20,13 @@ pub struct Output {
 impl Model for Output {
     ghost use Rattle.std.specs.Prelude.{List, ℕ, ◌≤◌, string_bytes, string_len};
     ghost use Rattle.std.specs.String.{string_capacity};
+    ghost use Rattle.mvm_interp.specs.declared.output.TheConstants.{OUTPUT_LIMIT};
 
     ghost Value = { List ℕ };
 
     ghost view = { λ o. string_bytes o.text };
 
-    ghost invariant = { λ o. (string_len o.text ≤ 65536) × (65536 ≤ string_capacity o.text) };
+    ghost invariant = { λ o. (string_len o.text ≤ OUTPUT_LIMIT) × (OUTPUT_LIMIT ≤ string_capacity o.text) };
 }
 
 impl Output {

@@ -14,10 +14,10 @@ use std::alloc::{AllocError, Global};
 use std::marker::Model;
 
 /// How many attempts an isolate may make.
-const STEP_LIMIT: u64 = 100_000_000;
+pub const STEP_LIMIT: u64 = 100_000_000;
 
 /// How many attempts come before the first instruction: the start frame, and the initialisation of the class.
-const START_ATTEMPTS: u64 = 3;
+pub const START_ATTEMPTS: u64 = 3;
 
 /// One isolate that runs the `main` of one class on one thread. All its memory is taken at the beginning.
 #[derive(Debug, Drop)]
@@ -33,12 +33,13 @@ pub struct OneTask {
 impl Model for OneTask {
     ghost use Rattle.std.specs.Prelude.{◌≤◌};
     ghost use Rattle.mvm_interp.specs.Task.{TaskParts};
+    ghost use Rattle.mvm_interp.specs.declared.task.TheConstants.{STEP_LIMIT};
 
     ghost Value = { TaskParts };
 
     ghost view = { λ t. record { name = t.name; code = t.code; state = record { frame = t.frame; output = t.output; steps = t.steps; ending = t.ending } } };
 
-    ghost invariant = { λ t. t.steps ≤ 100000000 };
+    ghost invariant = { λ t. t.steps ≤ STEP_LIMIT };
 }
 
 impl OneTask {
@@ -74,7 +75,7 @@ impl OneTask {
         ensures machine { self.new ≡ record self.old { state = step self.old.code self.old.state } }
         ensures answer { result ≡ Ok (stepped_of self.new.state.ending) }
         ensures counted { self.new.state.ending ≡ None → self.new.state.steps ≡ self.old.state.steps + 1 }
-        ensures within { self.new.state.steps ≤ 100000000 }
+        ensures within { self.new.state.steps ≤ STEP_LIMIT }
     {
         if self.steps == STEP_LIMIT {
             return Ok(self.end(Ending::StepLimit));

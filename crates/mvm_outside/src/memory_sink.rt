@@ -1,4 +1,4 @@
-ghost use Rattle.std.specs.Prelude.{◌≡◌, ◌==◌, ◌&&◌, [], length, min, nat_lt, is_err, IsTrue, IsErr, IfOk, Some, if◌then◌else◌};
+ghost use Rattle.std.specs.Prelude.{◌≡◌, [], length, min, is_err, IsTrue, IsErr, IfOk, Some};
 ghost use Rattle.std.specs.Io.{WritesAtMost};
 ghost use Rattle.std.specs.Io.KnownBytes.{WriteAppends};
 ghost use Rattle.mvm_outside.specs.Causes.{HasCause, CountsIdle, counted_if, is_idle, next_count};

@@ -1,4 +1,4 @@
-ghost use Rattle.std.specs.Prelude.{◌≡◌, ◌≢◌, ◌≤◌, length, IsTrue, IfOk, IfSome, Some, if◌then◌else◌};
+ghost use Rattle.std.specs.Prelude.{◌≡◌, ◌≢◌, ◌≤◌, length, IsTrue, IfOk, IfSome, Some};
 ghost use Rattle.std.specs.Option.{option_copied};
 ghost use Rattle.mvm_outside.specs.Causes.{Rose, counted_if, is_failure, next_count};
 ghost use Rattle.mvm_outside.specs.Files.{HasFile, HasNoFile, HasLongFile, file_of};

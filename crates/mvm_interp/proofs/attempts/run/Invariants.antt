@@ -1,5 +1,6 @@
-use Rattle.std.proofs.Common.{◌≡◌, ℕ, ◌-◌, None}
+use Rattle.std.proofs.Common.{◌≡◌, ℕ, ◌+◌, ◌-◌, None}
 use Rattle.mvm_interp.specs.Run.{after}
+use Rattle.mvm_interp.specs.declared.task.TheConstants.{STEP_LIMIT}
 use Rattle.mvm_interp.proofs.attempts.run.Given as goal
 
 abbrev pub invariant-attempts : goal.invariant-attempts
@@ -11,4 +12,4 @@ invariant-attempts l = record {
 }
 
 abbrev pub decreases-attempts : goal.decreases-attempts
-decreases-attempts l = 100000001 - l.task.state.steps
+decreases-attempts l = STEP_LIMIT + 1 - l.task.state.steps
