@@ -1,4 +1,4 @@
--- In what bytes spell, places ascend.
+-- In bytes that spell a class file, or code, places ascend up to the end.
 use Rattle.std.proofs.Common.{◌≡◌, ℕ, zero, suc, ◌+◌, ◌*◌, ◌≤◌, List, [], ◌∷◌, length, Some, sym, ap, subst, ◌∙◌, arith}
 use Rattle.mvm_layout.specs.Infos.{AttributeParts}
 use Rattle.mvm_layout.specs.Ascending.{AttributesAscend, MembersAscend, PlacesAscend}
@@ -87,15 +87,14 @@ members_ascend xs from at t low s =
     let to : (at + length h.0) + length h.1 ≡ at + length t = omega (arith, whole) in
     subst (λ (ys : List MemberInfo). MembersAscend from ys (at + length t)) s.2 (subst (λ (k : ℕ). MembersAscend from s.0.1 k) to more)
 
-record BodyAscends (x : Body) : Type 0 where
+record BodyAscends (x : Body) (to : ℕ) : Type 0 where
   methods_from : ℕ
   attributes_from : ℕ
-  to : ℕ
   fields : MembersAscend (x.0.0 + 8 + 2 * length x.1.1.1.0) x.1.1.1.1.0 methods_from
   methods : MembersAscend methods_from x.1.1.1.1.1.0 attributes_from
   attributes : AttributesAscend attributes_from x.1.1.1.1.1.1 to
 
-body_ascends : (x : Body) (at : ℕ) (t : List ℕ) → body.spells x at t → BodyAscends x
+body_ascends : (x : Body) (at : ℕ) (t : List ℕ) → body.spells x at t → BodyAscends x (at + length t)
 unfolding body
 body_ascends x at t flags =
     let this = flags.3 in
@@ -103,22 +102,42 @@ body_ascends x at t flags =
     let lines = super.3 in
     let fields = lines.3 in
     let methods = fields.3 in
-    let two = interfaces_two x.1.1.1.0 _ lines.0 lines.2 in
+    let one = parted t flags.0 flags.1 flags.4 in
+    let two = parted flags.1 this.0 this.1 this.4 in
+    let three = parted this.1 super.0 super.1 super.4 in
+    let four = parted super.1 lines.0 lines.1 lines.4 in
+    let five = parted lines.1 fields.0 fields.1 fields.4 in
+    let six = parted fields.1 methods.0 methods.1 methods.4 in
+    let indices = interfaces_two x.1.1.1.0 _ lines.0 lines.2 in
+    let begin = (((((at + length flags.0) + length this.0) + length super.0) + length lines.0) + length fields.0) + length methods.0 in
+    let all = attributes_ascend x.1.1.1.1.1.1 begin begin methods.1 (omega arith) methods.3 in
+    let to : begin + length methods.1 ≡ at + length t = omega (arith, one, two, three, four, five, six) in
     record {
       methods_from = _;
-      attributes_from = _;
-      to = _;
-      fields = members_ascend x.1.1.1.1.0 _ _ fields.0 (omega (arith, two, flags.2.0, flags.2.1.0, this.2.0, super.2.0)) fields.2;
+      attributes_from = begin;
+      fields = members_ascend x.1.1.1.1.0 _ _ fields.0 (omega (arith, indices, flags.2.0, flags.2.1.0, this.2.0, super.2.0)) fields.2;
       methods = members_ascend x.1.1.1.1.1.0 _ _ methods.0 (omega arith) methods.2;
-      attributes = attributes_ascend x.1.1.1.1.1.1 _ _ methods.1 (omega arith) methods.3;
+      attributes = subst (λ (k : ℕ). AttributesAscend begin x.1.1.1.1.1.1 k) to all;
     }
 
-pub places_ascend : (text : List ℕ) (info : ClassInfo) → layout.spells info 0 text → PlacesAscend info
+-- places ascend, and the last attribute ends where the file does
+pub places_to_end : (text : List ℕ) (info : ClassInfo) → layout.spells info 0 text → (places : PlacesAscend info) × (places.to ≡ length text)
 unfolding layout
-places_ascend text info s =
-    let pool = s.1.3.3.3 in
+places_to_end text info s =
+    let magic = s.1 in
+    let minor = magic.3 in
+    let major = minor.3 in
+    let pool = major.3 in
+    let one = parted text magic.0 magic.1 magic.4 in
+    let two = parted magic.1 minor.0 minor.1 minor.4 in
+    let three = parted minor.1 major.0 major.1 major.4 in
+    let four = parted major.1 pool.0 pool.1 pool.4 in
     let b = body_ascends s.0.1.1.1.1 _ pool.1 pool.3 in
-    subst PlacesAscend s.2 (record { methods_from = b.methods_from; attributes_from = b.attributes_from; to = b.to; fields = b.fields; methods = b.methods; attributes = b.attributes })
+    subst (λ (i : ClassInfo). (places : PlacesAscend i) × (places.to ≡ length text)) s.2
+    (record { methods_from = b.methods_from; attributes_from = b.attributes_from; to = _; fields = b.fields; methods = b.methods; attributes = b.attributes }, omega (arith, one, two, three, four))
+
+pub places_ascend : (text : List ℕ) (info : ClassInfo) → layout.spells info 0 text → PlacesAscend info
+places_ascend text info s = (places_to_end text info s).0
 
 code_places : (a : AttributeParts) (info : CodeInfo) → code.spells info (a.at + 6) a.content → AttributesAscend (a.at + 6) info.attributes (a.at + 6 + length a.content)
 unfolding code

@@ -4,14 +4,18 @@ use Rattle.mvm_layout.specs.Infos.{AttributeParts}
 use Rattle.mvm_layout.specs.declared.info.MemberInfo.{MemberInfo}
 use Rattle.mvm_layout.specs.declared.info.ClassInfo.{ClassInfo}
 
+-- Attributes stand between two places: each begins behind the one before it, of which the name takes 2 bytes and the length 4.
 abbrev pub AttributesAscend : ℕ → List AttributeParts → ℕ → Type 0
 AttributesAscend from [] to = from ≤ to
-AttributesAscend from (a ∷ more) to = (from ≤ a.at) × AttributesAscend (a.at + 6 + length a.content) more to
+AttributesAscend from (attribute ∷ more) to = (from ≤ attribute.at) × AttributesAscend (attribute.at + 6 + length attribute.content) more to
 
+-- Members stand between two places: each begins behind the one before it, and its attributes stand behind the 8 bytes of its
+-- flags, its name, its descriptor and their count, and before the next member.
 abbrev pub MembersAscend : ℕ → List MemberInfo → ℕ → Type 0
 MembersAscend from [] to = from ≤ to
-MembersAscend from (m ∷ more) to = (from ≤ m.at) × (next : ℕ) × AttributesAscend (m.at + 8) m.attributes next × MembersAscend next more to
+MembersAscend from (member ∷ more) to = (from ≤ member.at) × (next : ℕ) × AttributesAscend (member.at + 8) member.attributes next × MembersAscend next more to
 
+-- the interfaces, the fields, the methods, and the attributes of the class, which end at a place
 pub record PlacesAscend (info : ClassInfo) : Type 0 where
   pub methods_from : ℕ
   pub attributes_from : ℕ

@@ -9,16 +9,17 @@ ghost use Rattle.mvm_layout.specs.declared.fault.ClassFault.TheVariants.{Truncat
 ghost use Rattle.mvm_layout.specs.declared.info.ClassInfo.{ClassInfo};
 ghost use Rattle.mvm_layout.specs.declared.info.CodeInfo.{CodeInfo};
 
-/// What holds of all bytes.
+/// Laws of the layout, of all bytes and all that they spell: what is read is the standard's, each proper beginning of a class
+/// file is refused, and so is all that is longer (JVM Specification 4.1, 4.4.7, 4.7.3). It does nothing.
 pub fn layout_law()
     // Bytes have a text exactly where they are the modified UTF-8 of its units.
     ensures text { (bytes units : List ℕ) → (decoded_text bytes ≡ Some units) ↔ (AreUnits units × (bytes ≡ spelled_all units)) }
     // The content of an attribute has code exactly where it spells it, all of it, at its place in the file.
     ensures code { (attribute : AttributeParts) (info : CodeInfo) → (code_in attribute ≡ Some info) ↔ IsCode attribute info }
-    // Every proper beginning of a class file is truncated.
+    // Every proper beginning of a class file is truncated, at a place in it or at its end.
     ensures cut { (text more : List ℕ) (info : ClassInfo) → layout.spells info 0 (text ++ more) → more ≢ [] → (place : ℕ) × (place ≤ length text) × (laid text ≡ Err (Truncated place)) }
     // What follows a class file is trailing, from its first byte on.
     ensures longer { (text more : List ℕ) (info : ClassInfo) → layout.spells info 0 text → more ≢ [] → laid (text ++ more) ≡ Err (Trailing (length text)) }
-    // What stands in a file stands one behind the other.
-    ensures ascends { (text : List ℕ) (info : ClassInfo) → layout.spells info 0 text → PlacesAscend info }
+    // What stands in a file stands one behind the other, up to the end of the file.
+    ensures ascends { (text : List ℕ) (info : ClassInfo) → layout.spells info 0 text → (places : PlacesAscend info) × (places.to ≡ length text) }
 {}

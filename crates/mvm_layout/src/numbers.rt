@@ -10,44 +10,33 @@ use mvm_base::Cursor;
 pub(crate) fn u1(cursor: &mut Cursor) -> Result<u8, ClassFault>
     ensures { Gives result ((number 1).read cursor.old) cursor.new }
 {
-    match cursor.u1() {
-        Ok(n) => Ok(n),
-        Err(at) => Err(ClassFault::Truncated(at)),
-    }
+    cursor.u1().map_err(ClassFault::Truncated)
 }
 
 /// The number in the next two bytes.
 #[tactic(auto, unfolding(mvm_base::specs::Place::run))]
 pub(crate) fn u2(cursor: &mut Cursor) -> Result<u16, ClassFault>
     ensures gives { Gives result ((number 2).read cursor.old) cursor.new }
-    ensures place { OnOk result (cursor.new.at ≡ cursor.old.at + 2) }
+    ensures left { OnOk result (length cursor.old.rest ≡ 2 + length cursor.new.rest) }
 {
-    match cursor.u2() {
-        Ok(n) => Ok(n),
-        Err(at) => Err(ClassFault::Truncated(at)),
-    }
+    cursor.u2().map_err(ClassFault::Truncated)
 }
 
 /// The number in the next four bytes.
 #[tactic(auto, unfolding(mvm_base::specs::Place::run))]
 pub(crate) fn u4(cursor: &mut Cursor) -> Result<u32, ClassFault>
     ensures gives { Gives result ((number 4).read cursor.old) cursor.new }
-    ensures place { OnOk result (cursor.new.at ≡ cursor.old.at + 4) }
+    ensures left { OnOk result (length cursor.old.rest ≡ 4 + length cursor.new.rest) }
 {
-    match cursor.u4() {
-        Ok(n) => Ok(n),
-        Err(at) => Err(ClassFault::Truncated(at)),
-    }
+    cursor.u4().map_err(ClassFault::Truncated)
 }
 
 /// The number in the next eight bytes.
 pub(crate) fn u8(cursor: &mut Cursor) -> Result<u64, ClassFault>
     ensures { Gives result ((number 8).read cursor.old) cursor.new }
 {
-    match cursor.bytes(8) {
-        Ok(bytes) => Ok(BigEndian::read_u64(bytes)),
-        Err(at) => Err(ClassFault::Truncated(at)),
-    }
+    let bytes = cursor.bytes(8).map_err(ClassFault::Truncated)?;
+    Ok(BigEndian::read_u64(bytes))
 }
 
 /// The next `n` bytes.
@@ -55,10 +44,7 @@ pub(crate) fn u8(cursor: &mut Cursor) -> Result<u64, ClassFault>
 pub(crate) fn run<'a>(cursor: &mut Cursor<'a>, n: u32) -> Result<&'a [u8], ClassFault>
     ensures gives { MatchResult result (λ x. (bytes n).read cursor.old ≡ Ok (x.now, cursor.new)) (λ fault. (bytes n).read cursor.old ≡ Err fault) }
     ensures len { IfOk result (λ x. length x.now ≡ n) }
-    ensures place { OnOk result (cursor.new.at ≡ cursor.old.at + n) }
+    ensures left { OnOk result (length cursor.old.rest ≡ n + length cursor.new.rest) }
 {
-    match cursor.bytes(n) {
-        Ok(bytes) => Ok(bytes),
-        Err(at) => Err(ClassFault::Truncated(at)),
-    }
+    cursor.bytes(n).map_err(ClassFault::Truncated)
 }

@@ -1,7 +1,7 @@
 use Rattle.mvm_layout.proofs.Texts.{decoded_text-sound, decoded_text-complete}
 use Rattle.mvm_layout.proofs.Layouts.{code_in-sound, code_in-complete}
 use Rattle.mvm_layout.proofs.Cuts.{laid-cut, laid-longer}
-use Rattle.mvm_layout.proofs.Ascending.{places_ascend}
+use Rattle.mvm_layout.proofs.Ascending.{places_to_end}
 use Rattle.mvm_layout.proofs.laws.layout_law.Goals as goal
 
 pub returns-clause-text : goal.returns-clause-text
@@ -17,4 +17,4 @@ pub returns-clause-longer : goal.returns-clause-longer
 returns-clause-longer c = laid-longer
 
 pub returns-clause-ascends : goal.returns-clause-ascends
-returns-clause-ascends c = places_ascend
+returns-clause-ascends c = places_to_end
