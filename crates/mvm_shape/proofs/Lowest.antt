@@ -8,7 +8,6 @@ use Rattle.mvm_base.specs.declared.descriptor.DescFault.TheVariants as desc_faul
 use Rattle.mvm_layout.proofs.Ascending.{places_ascend, code_ascends}
 use Rattle.mvm_layout.specs.Ascending.{AttributesAscend, MembersAscend, PlacesAscend}
 use Rattle.mvm_layout.specs.Flags.{is_static, is_interface}
-use Rattle.mvm_layout.specs.Format.{Format}
 use Rattle.mvm_layout.specs.Infos.{AttributeParts}
 use Rattle.mvm_layout.specs.Layout.{layout, code_in}
 use Rattle.mvm_layout.specs.Pool.{entry, is_class, text}
