@@ -2,7 +2,11 @@
 //! name, and what classes, fields, methods and their attributes have to be.
 //!
 //! To the layers above it promises: [`shape`] answers exactly what `shaped` of `specs/Shape.antt` says of a class file that
-//! is laid out, its parts or the first fault: the lowest entry of the constant pool, then the lowest place.
+//! is laid out, unless memory ran out: its parts, or the first fault, which is that of the lowest entry of the constant pool
+//! that is wrong, else of the first rule that is broken. [`shape_law`] promises that this rule has the lowest place: of all
+//! that can be wrong behind the constant pool, which `specs/Lowest.antt` lists without an order, the fault that is told is one
+//! that there is (`told`), no other is lower, where at one place Shape is lower than Unsupported (`lowest`), and there is none
+//! where no fault is told (`none`).
 #![tactic(auto)]
 
 mod attributes;

@@ -1,160 +1,81 @@
-ghost use Rattle.std.specs.Prelude.{◌≡◌, ◌+◌, ◌<◌, ◌^◌, length, All, IfOk, OnOk};
-ghost use Rattle.mvm_layout.specs.Bounds.{HasFewUnits, StandsWithin, IsWithinFile};
-
 use super::*;
-use mvm_base::{List, Name};
-use mvm_layout::{Item, MemberInfo};
-use std::alloc::AllocError;
+use mvm_layout::read_layout;
 use std::test::Fail;
 
-fn push_item(pool: &mut List<Item>, item: Item) -> Result<(), AllocError>
-    requires short { HasFewUnits item }
-    requires texts { All HasFewUnits pool.old }
-    ensures texts { All HasFewUnits pool.new }
-    ensures longer { OnOk result (length pool.new ≡ length pool.old + 1) }
-{
-    pool.push(item)?;
-    Ok(())
-}
+/// The interface `A` under `java/lang/Object`, with one method: it is public, its name is `f`, its descriptor `()V`, and its code `return`.
+/// The texts of the pool are 2 `A`, 4, 5 `f`, 6 `()V`, 7 `Code`, 8 `<clinit>`. The flags of the class stand at 67, the method at 79.
+const INTERFACE: [u8; 108] = [
+    0xca, 0xfe, 0xba, 0xbe, 0x00, 0x00, 0x00, 0x34, 0x00, 0x09, 0x07, 0x00, 0x02, 0x01, 0x00, 0x01,
+    0x41, 0x07, 0x00, 0x04, 0x01, 0x00, 0x10, 0x6a, 0x61, 0x76, 0x61, 0x2f, 0x6c, 0x61, 0x6e, 0x67,
+    0x2f, 0x4f, 0x62, 0x6a, 0x65, 0x63, 0x74, 0x01, 0x00, 0x01, 0x66, 0x01, 0x00, 0x03, 0x28, 0x29,
+    0x56, 0x01, 0x00, 0x04, 0x43, 0x6f, 0x64, 0x65, 0x01, 0x00, 0x08, 0x3c, 0x63, 0x6c, 0x69, 0x6e,
+    0x69, 0x74, 0x3e, 0x06, 0x00, 0x00, 0x01, 0x00, 0x03, 0x00, 0x00, 0x00, 0x00, 0x00, 0x01, 0x00,
+    0x01, 0x00, 0x05, 0x00, 0x06, 0x00, 0x01, 0x00, 0x07, 0x00, 0x00, 0x00, 0x0d, 0x00, 0x00, 0x00,
+    0x01, 0x00, 0x00, 0x00, 0x01, 0xb1, 0x00, 0x00, 0x00, 0x00, 0x00, 0x00,
+];
 
-fn push_text(alloc: Global, pool: &mut List<Item>, text: &str) -> Result<(), AllocError>
-    requires short { length text.now < 2 ^ 32 }
-    requires texts { All HasFewUnits pool.old }
-    ensures texts { All HasFewUnits pool.new }
-    ensures longer { OnOk result (length pool.new ≡ length pool.old + 1) }
-{
-    let name = Name::from_ascii(alloc, text)?;
-    push_item(pool, Item::Utf8(name))
-}
-
-/// The class `A` under `java/lang/Object`, and texts: 7 and 5 are equal, and so are 8 and 6.
-fn pool(alloc: Global) -> Result<List<Item>, AllocError>
-    ensures texts { IfOk result (All HasFewUnits) }
-    ensures count { IfOk result (λ pool. length pool ≡ 11) }
-{
-    let mut pool = List::new(alloc);
-    pool.push(Item::Class(2))?;
-    push_text(alloc, &mut pool, "A")?;
-    pool.push(Item::Class(4))?;
-    push_text(alloc, &mut pool, "java/lang/Object")?;
-    push_text(alloc, &mut pool, "a")?;
-    push_text(alloc, &mut pool, "I")?;
-    push_text(alloc, &mut pool, "a")?;
-    push_text(alloc, &mut pool, "I")?;
-    push_text(alloc, &mut pool, "a<b")?;
-    push_text(alloc, &mut pool, "F")?;
-    push_text(alloc, &mut pool, "()V")?;
-    Ok(pool)
-}
-
-fn class<'a>(alloc: Global, flags: u16, super_class: u16) -> Result<ClassInfo<'a>, AllocError>
-    ensures within { IfOk result IsWithinFile }
-    ensures count { IfOk result (λ info. length info.pool ≡ 11) }
-{
-    Ok(ClassInfo {
-        minor: 0,
-        major: 52,
-        pool: pool(alloc)?,
-        at: 100,
-        flags,
-        this_class: 1,
-        super_class,
-        interfaces: List::new(alloc),
-        fields: List::new(alloc),
-        methods: List::new(alloc),
-        attributes: List::new(alloc),
-    })
-}
-
-/// An abstract member, which has no code.
-fn member<'a>(alloc: Global, at: u32, name: u16, desc: u16) -> MemberInfo<'a>
-    requires { at + 8 < 2 ^ 32 }
-    ensures { StandsWithin result }
-{
-    MemberInfo {
-        at,
-        flags: 0x0400,
-        name,
-        desc,
-        attributes: List::new(alloc),
+/// The fault of the interface where some of its bytes are others: the place of each, and the byte.
+fn fault_with(alloc: Global, changes: &[(usize, u8)]) -> Option<ClassFault> {
+    let mut bytes = INTERFACE;
+    for (place, byte) in changes {
+        if *place < 108 {
+            bytes[*place] = *byte;
+        }
     }
-}
-
-fn push_member<'a>(
-    members: &mut List<MemberInfo<'a>>,
-    member: MemberInfo<'a>,
-) -> Result<(), AllocError>
-    requires one { StandsWithin member }
-    requires others { All StandsWithin members.old }
-    ensures { All StandsWithin members.new }
-{
-    members.push(member)?;
-    Ok(())
-}
-
-fn fault_of(alloc: Global, info: ClassInfo) -> Option<ClassFault>
-    requires { IsWithinFile info }
-{
-    match shape(alloc, info) {
-        Ok(_) => None,
+    match read_layout(alloc, &bytes) {
+        Ok(info) => match shape(alloc, info) {
+            Ok(_) => None,
+            Err(fault) => Some(fault),
+        },
         Err(fault) => Some(fault),
     }
 }
 
-fn fault_of_fields(
-    alloc: Global,
-    first: (u16, u16),
-    second: (u16, u16),
-) -> Result<Option<ClassFault>, AllocError> {
-    let mut info = class(alloc, 0x0021, 3)?;
-    push_member(&mut info.fields, member(alloc, 200, first.0, first.1))?;
-    push_member(&mut info.fields, member(alloc, 300, second.0, second.1))?;
-    Ok(fault_of(alloc, info))
-}
-
-fn fault_of_method(alloc: Global, name: u16, desc: u16) -> Result<Option<ClassFault>, AllocError> {
-    let mut info = class(alloc, 0x0021, 3)?;
-    push_member(&mut info.methods, member(alloc, 200, name, desc))?;
-    Ok(fault_of(alloc, info))
+/// The fault where the file has this major version, and its method these flags and the text of this index as its name.
+fn fault_of_method(alloc: Global, major: u8, flags: u8, name: u8) -> Option<ClassFault> {
+    fault_with(alloc, &[(7, major), (80, flags), (82, name)])
 }
 
 #[test]
-fn tests_members(rt: HostRuntime) -> Result<(), Fail> {
+fn tests_code_of_an_interface(rt: HostRuntime) -> Result<(), Fail> {
     let alloc = rt.alloc();
-    assert_eq!(rt; fault_of_fields(alloc, (5, 6), (9, 6))?, None);
+    let shape = Some(ClassFault::Shape(79));
+    let unsupported = Some(ClassFault::Unsupported(79));
+    assert_eq!(rt; fault_of_method(alloc, 52, 0x01, 5), None);
+    assert_eq!(rt; fault_of_method(alloc, 52, 0x02, 5), None);
+    assert_eq!(rt; fault_of_method(alloc, 52, 0x09, 5), None);
+    assert_eq!(rt; fault_of_method(alloc, 52, 0x00, 5), shape);
+    assert_eq!(rt; fault_of_method(alloc, 52, 0x03, 5), shape);
+    assert_eq!(rt; fault_of_method(alloc, 52, 0x05, 5), shape);
+    assert_eq!(rt; fault_of_method(alloc, 52, 0x11, 5), shape);
+    assert_eq!(rt; fault_of_method(alloc, 52, 0x21, 5), shape);
+    assert_eq!(rt; fault_of_method(alloc, 51, 0x01, 5), unsupported);
+    assert_eq!(rt; fault_of_method(alloc, 45, 0x03, 5), unsupported);
+    assert_eq!(rt; fault_of_method(alloc, 52, 0x00, 8), None);
+    assert_eq!(rt; fault_of_method(alloc, 51, 0x31, 8), None);
+    assert_eq!(rt; fault_of_method(alloc, 52, 0x00, 1), shape);
+    assert_eq!(rt; fault_of_method(alloc, 51, 0x00, 1), unsupported);
     assert_eq!(rt;
-        fault_of_fields(alloc, (5, 6), (7, 8))?,
-        Some(ClassFault::Shape(300))
-    );
-    assert_eq!(rt;
-        fault_of_fields(alloc, (5, 6), (2, 10))?,
-        Some(ClassFault::Unsupported(304))
-    );
-    assert_eq!(rt;
-        fault_of_fields(alloc, (5, 11), (5, 6))?,
-        Some(ClassFault::Shape(204))
-    );
-    assert_eq!(rt; fault_of_method(alloc, 5, 11)?, None);
-    assert_eq!(rt;
-        fault_of_method(alloc, 9, 11)?,
-        Some(ClassFault::Shape(202))
+        fault_of_method(alloc, 52, 0x01, 1),
+        Some(ClassFault::Shape(81))
     );
     Ok(())
 }
 
 #[test]
-fn tests_a_header(rt: HostRuntime) -> Result<(), Fail> {
+fn tests_places(rt: HostRuntime) -> Result<(), Fail> {
     let alloc = rt.alloc();
-    assert_eq!(rt; fault_of(alloc, class(alloc, 0x0601, 3)?), None);
+    assert_eq!(rt; fault_with(alloc, &[(67, 0x00), (80, 0x00)]), None);
+    assert_eq!(rt; fault_with(alloc, &[(12, 3)]), Some(ClassFault::Pool(1)));
+    assert_eq!(rt; fault_with(alloc, &[(70, 2)]), Some(ClassFault::Shape(69)));
+    assert_eq!(rt; fault_with(alloc, &[(72, 1)]), Some(ClassFault::Shape(71)));
+    assert_eq!(rt; fault_with(alloc, &[(88, 5)]), Some(ClassFault::Shape(79)));
+    assert_eq!(rt; fault_with(alloc, &[(42, 0x2f)]), Some(ClassFault::Shape(81)));
+    assert_eq!(rt; fault_with(alloc, &[(84, 5)]), Some(ClassFault::Shape(83)));
     assert_eq!(rt;
-        fault_of(alloc, class(alloc, 0x0601, 1)?),
-        Some(ClassFault::Shape(104))
+        fault_with(alloc, &[(48, 0x46)]),
+        Some(ClassFault::Unsupported(83))
     );
-    let mut info = class(alloc, 0x0021, 3)?;
-    info.this_class = 2;
-    assert_eq!(rt; fault_of(alloc, info), Some(ClassFault::Shape(102)));
-    let mut info = class(alloc, 0x0021, 3)?;
-    push_item(&mut info.pool, Item::Str(1))?;
-    assert_eq!(rt; fault_of(alloc, info), Some(ClassFault::Pool(12)));
+    assert_eq!(rt; fault_with(alloc, &[(100, 0)]), Some(ClassFault::Shape(87)));
     Ok(())
 }
