@@ -9,3 +9,4 @@ pub mod Methods
 pub mod Whole
 pub mod Shorter
 pub mod Made
+pub mod Kept

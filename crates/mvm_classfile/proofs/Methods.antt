@@ -19,8 +19,9 @@ use Rattle.mvm_layout.specs.Flags.{has_no_code}
 use Rattle.mvm_shape.specs.Members.{is_method_name, holds, method_descriptor, is_named, codes_among, named_attribute, code_attribute, method_attribute, is_repeated, is_sound_method, keeps_interface_flags, keeps_interface_version, tested_method, method_rule, first, code_of_info, code_of, method_part}
 use Rattle.mvm_classfile.specs.Writing.{u2, Names, written_attribute, written_code, written_member}
 use Rattle.mvm_classfile.proofs.Pieces.{Each, AttributeFits, MemberFits, code_fits, attribute_again, member_again, counted_again}
+use Rattle.mvm_classfile.proofs.Plain.{both_hold, not_true}
 use Rattle.mvm_classfile.proofs.Named.{text_is_utf8}
-use Rattle.mvm_classfile.proofs.Rule.{kept, holds_true, holds_again, both_hold, and_again, both, both_again, method_desc_again, first_found, key, met_again, key_more}
+use Rattle.mvm_classfile.proofs.Rule.{kept, holds_true, holds_again, and_again, both, both_again, method_desc_again, first_found, key, met_again, key_more}
 use Rattle.mvm_classfile.proofs.Fields.{Serves}
 
 -- ---- built anew
@@ -55,22 +56,18 @@ method_spelled_at pool names at flags name desc (Some x) f n d c =
 
 -- ---- the rule
 
-record MethodKept (pool : List Item) (major : ℕ) (is_interface repeated : Bool) (m : MemberInfo) : Type 0 where
-  met : repeated ≡ false
-  flags : keeps_interface_flags pool major is_interface m ≡ true
-  version : keeps_interface_version pool major is_interface m ≡ true
-  name : holds is_method_name (text pool m.name) ≡ true
-  desc : method_descriptor (m.at + 4) m.flags (text pool m.desc) ≡ kept
-  attributes : each (method_attribute pool) m.attributes ≡ kept
+pub record MethodKept (pool : List Item) (major : ℕ) (is_interface repeated : Bool) (m : MemberInfo) : Type 0 where
+  pub met : repeated ≡ false
+  pub flags : keeps_interface_flags pool major is_interface m ≡ true
+  pub version : keeps_interface_version pool major is_interface m ≡ true
+  pub name : holds is_method_name (text pool m.name) ≡ true
+  pub desc : method_descriptor (m.at + 4) m.flags (text pool m.desc) ≡ kept
+  pub attributes : each (method_attribute pool) m.attributes ≡ kept
 
-not_true : (b : Bool) → not b ≡ true → b ≡ false
-not_true true h = absurd cc
-not_true false h = refl
-
-abbrev HasCodes : List Item → MemberInfo → Type 0
+abbrev pub HasCodes : List Item → MemberInfo → Type 0
 HasCodes pool m = (length (codes_among pool m.attributes) == cond (has_no_code m.flags) 0 1) ≡ true
 
-method_kept : (pool : List Item) (major : ℕ) (is_interface repeated : Bool) (m : MemberInfo) → tested_method pool major is_interface repeated m ≡ kept → MethodKept pool major is_interface repeated m × HasCodes pool m
+pub method_kept : (pool : List Item) (major : ℕ) (is_interface repeated : Bool) (m : MemberInfo) → tested_method pool major is_interface repeated m ≡ kept → MethodKept pool major is_interface repeated m × HasCodes pool m
 unfolding tested_method is_sound_method
 method_kept pool major is_interface repeated m e =
     let a = both _ _ tt e in
@@ -131,7 +128,7 @@ code_sound_at pool names m false (a ∷ more) serves fits s f n k =
     let one = first_found AttributeFits (is_named pool (codes "Code")) (method_attribute pool) m.attributes more a fits.attributes k f in
     sound_of pool names a m.flags serves one.fits one.passes (is_in pool a one.keeps one.passes) s
 
-code_sound : (pool : List Item) (names : Names) (major : ℕ) (is_interface : Bool) (before : List MemberInfo) (m : MemberInfo) → Serves pool (codes "Code") names.code → MemberFits m → method_rule pool major is_interface before m ≡ kept
+pub code_sound : (pool : List Item) (names : Names) (major : ℕ) (is_interface : Bool) (before : List MemberInfo) (m : MemberInfo) → Serves pool (codes "Code") names.code → MemberFits m → method_rule pool major is_interface before m ≡ kept
     → CodeSound pool names m.flags (method_part pool m).code
 unfolding method_part method_rule
 code_sound pool names major is_interface before m serves fits e =

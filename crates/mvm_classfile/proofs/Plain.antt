@@ -1,5 +1,5 @@
 -- Formats that say nothing of places: what spells a value at one place spells it at any, and is the written form of it.
-use Rattle.std.proofs.Common.{◌≡◌, ℕ, zero, suc, ◌+◌, ◌<◌, ◌^◌, Bool, true, false, List, [], ◌∷◌, ◌++◌, length, Some, refl, sym, ap, subst, ◌∙◌, append-nil, arith}
+use Rattle.std.proofs.Common.{◌≡◌, ℕ, zero, suc, ◌+◌, ◌<◌, ◌^◌, Bool, true, false, not, ◌&&◌, List, [], ◌∷◌, ◌++◌, length, Some, refl, sym, ap, subst, ◌∙◌, append-nil, arith}
 use Rattle.std.specs.List.{flat_map}
 use Rattle.std.proofs.lemmas.Nat.{be_bytes_2, be_bytes_4, be_bytes_8}
 use Rattle.byteorder.specs.Numbers.{big_from-lt, big_number-reads_back, length-bytes_high_first}
@@ -8,6 +8,20 @@ use Rattle.mvm_layout.specs.Format.{Format, bytes, number, given, followed, mapp
 use Rattle.mvm_layout.specs.declared.fault.ClassFault.{ClassFault}
 use Rattle.mvm_classfile.specs.Reading.{AreBytes}
 use Rattle.mvm_classfile.specs.Writing.{u1, u2, u4}
+
+-- ---- tests
+
+pub both_hold : (a b : Bool) → (a && b) ≡ true → (a ≡ true) × (b ≡ true)
+both_hold true b h = (refl, h)
+both_hold false b h = absurd cc
+
+pub not_true : (b : Bool) → not b ≡ true → b ≡ false
+not_true true h = absurd cc
+not_true false h = refl
+
+pub passes : {A : Type 0} (b : Bool) (x y : A) → if_passing b x ≡ Some y → x ≡ y
+passes true x y e = cc
+passes false x y e = absurd cc
 
 -- ---- bytes
 
@@ -82,10 +96,6 @@ plain_mapped h F u w f same = record {
   moves = λ y at other text s. (s.0, f.moves s.0 at other text s.1, s.2);
   written = λ y at text b s. f.written s.0 at text b s.1 ∙ same s.0 at text b s.1 ∙ ap w s.2;
 }
-
-passes : {A : Type 0} (b : Bool) (x y : A) → if_passing b x ≡ Some y → x ≡ y
-passes true x y e = cc
-passes false x y e = absurd cc
 
 pub plain_passing : {A : Type 0} (test : A → Bool) (fault : A → ClassFault) (F : Format A) (u : A → List ℕ) → Plain F u → Plain (passing test fault F) u
 plain_passing test fault F u f = record {
