@@ -17,7 +17,6 @@ use Rattle.mvm_layout.specs.declared.info.MemberInfo.{MemberInfo}
 use Rattle.mvm_layout.specs.declared.info.ClassInfo.{ClassInfo}
 use Rattle.mvm_layout.specs.declared.parts.Item.{Item}
 use Rattle.mvm_layout.specs.declared.parts.Item.TheVariants.{Utf8, Integer, Float, Long, Double, Class, Str, Fieldref, Methodref, InterfaceMethodref, NameAndType, MethodHandle, MethodType, InvokeDynamic}
-use Rattle.mvm_layout.proofs.Texts.{text_of-sound}
 use Rattle.mvm_layout.proofs.Layouts.{laid-sound}
 
 -- ---- lists
@@ -78,12 +77,12 @@ units_spelled (unit ∷ units) =
 text_few : (index : ℕ) (units : List ℕ) (at : ℕ) (t : List ℕ) → length t < 2 ^ 32 → (text index).spells units at t → length units < 2 ^ 32
 unfolding text
 text_few index units at t few s =
-    let h = s.1.1 in
+    let h = s.1 in
     let whole = parted t h.0 h.1 h.4 in
-    let content : length h.1 ≡ length s.0 = ap length h.3.0 ∙ ap length s.1.2 in
-    let spelt : length s.0 ≡ length (spelled_all units) = ap length (text_of-sound s.0 units s.2).1 in
-    let fewer = units_spelled units in
-    omega (arith, few, whole, content, spelt, fewer)
+    let spelled : length h.1 ≡ length (spelled_all s.0.1) = ap length h.3.2 in
+    let fewer = units_spelled s.0.1 in
+    let same : length s.0.1 ≡ length units = ap length s.2 in
+    omega (arith, few, whole, spelled, fewer, same)
 
 -- ---- the entries of the constant pool
 
