@@ -8,11 +8,11 @@ ghost use Rattle.mvm_layout.specs.Pool.{text};
 ghost use Rattle.mvm_base.specs.Rules.{expect};
 ghost use Rattle.mvm_layout.specs.Flags.{is_static, is_interface, has_no_code};
 ghost use Rattle.mvm_shape.specs.Members.{is_unqualified, is_method_name, holds, field_descriptor, method_descriptor, is_sound_field, tested_field, is_sound_method, is_interface_code, has_interface_code_flags, may_have_interface_code, keeps_interface_flags, keeps_interface_version, tested_method};
-ghost use Rattle.mvm_shape.specs.Facts.{all_facts, facts_of, is_known_field, is_known_method, known_field, known_method, tested_as};
+ghost use Rattle.mvm_shape.specs.TextFacts.{all_facts, facts_of, is_known_field, is_known_method, known_field, known_method, tested_as};
 
 use crate::attributes::{count_named, test_field_attributes, test_method_attributes};
-use crate::facts::{Descriptor, TextFacts, facts_at};
-use crate::header::shape_fault;
+use crate::text_facts::{Descriptor, TextFacts, facts_at};
+use crate::faults::{shape_fault, unsupported_fault};
 use mvm_base::List;
 use mvm_layout::flags::{
     FINAL, PRIVATE, PROTECTED, PUBLIC, SYNCHRONIZED, has_flag, has_no_code, is_interface, is_static,
@@ -24,7 +24,7 @@ use std::alloc::Global;
 /// The first major version of which an interface's methods may have code (JVM Specification 4.6).
 pub const INTERFACE_CODE_MAJOR: u16 = 52;
 
-#[tactic(auto, using(crate::proofs::Texts::field_name))]
+#[tactic(auto, using(crate::proofs::TextFacts::field_name))]
 fn is_field_name(pool: &List<Item>, rows: &[Option<TextFacts>], index: u16) -> bool
     requires { rows.now ≡ all_facts pool.now }
     ensures { result ≡ holds is_unqualified (text pool.now index) }
@@ -35,7 +35,7 @@ fn is_field_name(pool: &List<Item>, rows: &[Option<TextFacts>], index: u16) -> b
     }
 }
 
-#[tactic(auto, using(crate::proofs::Texts::method_name))]
+#[tactic(auto, using(crate::proofs::TextFacts::method_name))]
 fn is_method_name(pool: &List<Item>, rows: &[Option<TextFacts>], index: u16) -> bool
     requires { rows.now ≡ all_facts pool.now }
     ensures { result ≡ holds is_method_name (text pool.now index) }
@@ -46,17 +46,10 @@ fn is_method_name(pool: &List<Item>, rows: &[Option<TextFacts>], index: u16) -> 
     }
 }
 
-fn unsupported_fault(at: u32) -> ClassFault
-    requires { at + 4 < 2 ^ 32 }
-    ensures { result ≡ Unsupported (at + 4) }
-{
-    ClassFault::Unsupported(at + 4)
-}
-
 fn test_read(at: u32, beside: u64, read: Descriptor) -> Result<(), ClassFault>
     requires place { at + 4 < 2 ^ 32 }
     requires few { beside ≤ 255 }
-    ensures { AnswersUnless ClassFault.OutOfMemory result (tested_as (at + 4) beside read) }
+    ensures { result ≡ tested_as (at + 4) beside read }
 {
     match read {
         Descriptor::Whole(slots) => {
@@ -65,7 +58,7 @@ fn test_read(at: u32, beside: u64, read: Descriptor) -> Result<(), ClassFault>
             }
             Err(shape_fault(at, 4))
         }
-        Descriptor::Float => Err(unsupported_fault(at)),
+        Descriptor::Float => Err(unsupported_fault(at, 4)),
         Descriptor::Broken => Err(shape_fault(at, 4)),
     }
 }
@@ -88,7 +81,7 @@ fn known_method(facts: Option<TextFacts>) -> Descriptor
     }
 }
 
-#[tactic(auto, using(crate::proofs::Texts::field_tested))]
+#[tactic(auto, using(crate::proofs::TextFacts::field_tested))]
 fn test_field_descriptor(
     pool: &List<Item>,
     rows: &[Option<TextFacts>],
@@ -96,7 +89,7 @@ fn test_field_descriptor(
 ) -> Result<(), ClassFault>
     requires rows { rows.now ≡ all_facts pool.now }
     requires within { StandsWithin member.now }
-    ensures { AnswersUnless ClassFault.OutOfMemory result (field_descriptor (member.now.at + 4) (text pool.now member.now.desc)) }
+    ensures { result ≡ field_descriptor (member.now.at + 4) (text pool.now member.now.desc) }
 {
     let read = known_field(facts_at(pool, rows, member.desc));
     test_read(member.at, 0, read)
@@ -109,7 +102,7 @@ fn own_slots(flags: u16) -> u64
     if is_static(flags) { 0 } else { 1 }
 }
 
-#[tactic(auto, using(crate::proofs::Texts::method_tested))]
+#[tactic(auto, using(crate::proofs::TextFacts::method_tested))]
 fn test_method_descriptor(
     pool: &List<Item>,
     rows: &[Option<TextFacts>],
@@ -117,40 +110,35 @@ fn test_method_descriptor(
 ) -> Result<(), ClassFault>
     requires rows { rows.now ≡ all_facts pool.now }
     requires within { StandsWithin member.now }
-    ensures { AnswersUnless ClassFault.OutOfMemory result (method_descriptor (member.now.at + 4) member.now.flags (text pool.now member.now.desc)) }
+    ensures { result ≡ method_descriptor (member.now.at + 4) member.now.flags (text pool.now member.now.desc) }
 {
     let read = known_method(facts_at(pool, rows, member.desc));
     test_read(member.at, own_slots(member.flags), read)
 }
 
 #[tactic(auto, unfolding(crate::specs::Members::is_sound_field))]
-fn is_sound_field(
-    pool: &List<Item>,
-    is_interface: bool,
-    is_repeated: bool,
-    member: &MemberInfo,
-) -> bool
-    ensures { result ≡ is_sound_field pool.now is_interface is_repeated member.now }
+fn is_sound_field(info: &ClassInfo, is_repeated: bool, member: &MemberInfo) -> bool
+    ensures { result ≡ is_sound_field info.now.pool (is_interface info.now.flags) is_repeated member.now }
 {
     !is_repeated
-        && count_named(pool, b"ConstantValue", &member.attributes) <= 1
-        && (!is_interface || is_static(member.flags))
+        && count_named(&info.pool, b"ConstantValue", &member.attributes) <= 1
+        && (!is_interface(info.flags) || is_static(member.flags))
 }
 
 /// Whether a field keeps the rules.
 #[tactic(auto, unfolding(crate::specs::Members::tested_field))]
 pub(crate) fn test_field(
-    pool: &List<Item>,
+    info: &ClassInfo,
     rows: &[Option<TextFacts>],
-    is_interface: bool,
     is_repeated: bool,
     member: &MemberInfo,
 ) -> Result<(), ClassFault>
-    requires rows { rows.now ≡ all_facts pool.now }
+    requires rows { rows.now ≡ all_facts info.now.pool }
     requires within { StandsWithin member.now }
-    ensures { AnswersUnless ClassFault.OutOfMemory result (tested_field pool.now is_interface is_repeated member.now) }
+    ensures { result ≡ tested_field info.now.pool (is_interface info.now.flags) is_repeated member.now }
 {
-    if !is_sound_field(pool, is_interface, is_repeated, member) {
+    let pool = &info.pool;
+    if !is_sound_field(info, is_repeated, member) {
         return Err(ClassFault::Shape(member.at));
     }
     if !is_field_name(pool, rows, member.name) {

@@ -1,6 +1,6 @@
 ghost use Rattle.std.specs.Prelude.{◌≡◌, ℕ, ◌||◌, slice_index, Some, IfOk};
 ghost use Rattle.mvm_layout.specs.Pool.{text_of};
-ghost use Rattle.mvm_shape.specs.Numbers.{look, Numbered, AreNumbers, number_at, is_pair, has_pair, holds_pair, Adds};
+ghost use Rattle.mvm_shape.specs.TextNumbers.{look, Numbered, AreNumbers, number_at, is_pair, has_pair, holds_pair, Adds};
 
 use mvm_base::{List, OutOfMemory};
 use mvm_layout::pool::text;

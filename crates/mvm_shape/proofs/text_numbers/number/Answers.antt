@@ -1,8 +1,8 @@
 use Rattle.std.proofs.Common.{sym}
 use Rattle.std.proofs.lemmas.Map.Text.{btree_map_updates_str}
-use Rattle.mvm_shape.specs.Numbers.{look}
-use Rattle.mvm_shape.proofs.Numbering.{new_text}
-use Rattle.mvm_shape.proofs.numbers.number.Goals as goal
+use Rattle.mvm_shape.specs.TextNumbers.{look}
+use Rattle.mvm_shape.proofs.TextNumbers.{new_text}
+use Rattle.mvm_shape.proofs.text_numbers.number.Goals as goal
 
 pub returns : goal.returns
 returns c =

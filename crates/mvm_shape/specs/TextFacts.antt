@@ -11,9 +11,9 @@ use Rattle.mvm_layout.specs.declared.fault.ClassFault.{ClassFault}
 use Rattle.mvm_layout.specs.declared.fault.ClassFault.TheVariants.{Shape, Unsupported}
 use Rattle.mvm_base.specs.Rules.{expect}
 use Rattle.mvm_shape.specs.Members.{is_unqualified, is_method_name}
-use Rattle.mvm_shape.specs.declared.facts.Descriptor.{Descriptor}
-use Rattle.mvm_shape.specs.declared.facts.Descriptor.TheVariants.{Whole, Float, Broken}
-use Rattle.mvm_shape.specs.declared.facts.TextFacts.{TextFacts}
+use Rattle.mvm_shape.specs.declared.text_facts.Descriptor.{Descriptor}
+use Rattle.mvm_shape.specs.declared.text_facts.Descriptor.TheVariants.{Whole, Float, Broken}
+use Rattle.mvm_shape.specs.declared.text_facts.TextFacts.{TextFacts}
 
 -- how a text was read as a descriptor, with the slots of what it spells
 abbrev pub read_as : {A : Type 0} → (A → ℕ) → Result A DescFault → Descriptor

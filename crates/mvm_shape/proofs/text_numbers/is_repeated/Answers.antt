@@ -1,6 +1,6 @@
-use Rattle.mvm_shape.specs.Numbers.{holds_pair}
-use Rattle.mvm_shape.proofs.Numbering.{adds}
-use Rattle.mvm_shape.proofs.numbers.is_repeated.Goals as goal
+use Rattle.mvm_shape.specs.TextNumbers.{holds_pair}
+use Rattle.mvm_shape.proofs.TextNumbers.{adds}
+use Rattle.mvm_shape.proofs.text_numbers.is_repeated.Goals as goal
 
 pub returns : goal.returns
 returns c =

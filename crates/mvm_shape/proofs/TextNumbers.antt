@@ -21,7 +21,7 @@ use Rattle.mvm_layout.specs.declared.parts.Item.{Item}
 use Rattle.mvm_layout.specs.declared.info.MemberInfo.{MemberInfo}
 use Rattle.mvm_layout.specs.Pool.{text}
 use Rattle.mvm_shape.specs.Members.{same_text, is_same}
-use Rattle.mvm_shape.specs.Numbers.{Numbered, text_at, AreNumbers, number_at, is_number, is_pair, has_pair, pair_cmp, holds_pair, Adds}
+use Rattle.mvm_shape.specs.TextNumbers.{Numbered, text_at, AreNumbers, number_at, is_number, is_pair, has_pair, pair_cmp, holds_pair, Adds}
 
 -- ---- one text
 

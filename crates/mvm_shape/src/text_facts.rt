@@ -5,7 +5,7 @@ ghost use Rattle.std.specs.Str.{bytes_eq};
 ghost use Rattle.mvm_layout.specs.Bounds.{HasFewUnits};
 ghost use Rattle.mvm_layout.specs.Pool.{text};
 ghost use Rattle.mvm_shape.specs.Members.{is_one_of, is_unqualified, is_method_name};
-ghost use Rattle.mvm_shape.specs.Facts.{as_field, as_method, facts_of, facts_of_item, all_facts, flattened};
+ghost use Rattle.mvm_shape.specs.TextFacts.{as_field, as_method, facts_of, facts_of_item, all_facts, flattened};
 
 use mvm_base::{DescFault, List, Name, OutOfMemory, parse_field, parse_method};
 use mvm_layout::Item;
@@ -48,19 +48,17 @@ fn is_bracket(unit: u16) -> bool
     unit == 0x3c || unit == 0x3e
 }
 
+fn has_no_cut(units: &[u16]) -> bool
+    ensures { result ≡ list_all (λ unit. not (is_one_of (codes ".;[/") unit)) units.now }
+{
+    units.iter().all(|unit| !is_cut(*unit))
+}
+
 #[tactic(auto, unfolding(crate::specs::Members::is_unqualified))]
 fn is_unqualified(units: &[u16]) -> bool
     ensures { result ≡ is_unqualified units.now }
 {
-    if units.is_empty() {
-        return false;
-    }
-    for unit in units {
-        if is_cut(*unit) {
-            return false;
-        }
-    }
-    true
+    !units.is_empty() && has_no_cut(units)
 }
 
 fn has_no_bracket(units: &[u16]) -> bool
@@ -78,7 +76,7 @@ fn is_method_name(units: &[u16]) -> bool
         || (is_unqualified(units) && has_no_bracket(units))
 }
 
-#[tactic(auto, unfolding(crate::specs::Facts::as_field))]
+#[tactic(auto, unfolding(crate::specs::TextFacts::as_field))]
 fn as_field(alloc: Global, text: &Name) -> Result<Descriptor, OutOfMemory>
     requires { length text.now < 2 ^ 32 }
     ensures { IfOk result (λ found. found ≡ as_field text.now) }
@@ -94,7 +92,7 @@ fn as_field(alloc: Global, text: &Name) -> Result<Descriptor, OutOfMemory>
     }
 }
 
-#[tactic(auto, unfolding(crate::specs::Facts::as_method))]
+#[tactic(auto, unfolding(crate::specs::TextFacts::as_method))]
 fn as_method(alloc: Global, text: &Name) -> Result<Descriptor, OutOfMemory>
     requires { length text.now < 2 ^ 32 }
     ensures { IfOk result (λ found. found ≡ as_method text.now) }
@@ -145,10 +143,9 @@ pub(crate) fn all_facts(
     requires { All HasFewUnits pool.now }
     ensures { IfOk result (λ rows. rows.items ≡ all_facts pool.now) }
 {
-    let items = pool.as_slice();
     let mut rows = Vec::new(alloc);
-    for i in 0..items.len() {
-        let facts = facts_of_item(alloc, &items[i])?;
+    for item in pool.as_slice() {
+        let facts = facts_of_item(alloc, item)?;
         rows.push(facts)?;
     }
     Ok(rows)
@@ -165,7 +162,7 @@ fn row_at(rows: &[Option<TextFacts>], at: usize) -> Option<TextFacts>
 }
 
 /// What members ask of the text of an index, if it has one.
-#[tactic(auto, using(crate::proofs::Texts::facts_from))]
+#[tactic(auto, using(crate::proofs::TextFacts::facts_from))]
 pub(crate) fn facts_at(
     pool: &List<Item>,
     rows: &[Option<TextFacts>],

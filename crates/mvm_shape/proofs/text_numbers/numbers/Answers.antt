@@ -2,9 +2,9 @@ use Rattle.std.proofs.Common.{◌≡◌, Some, length, ap, arith}
 use Rattle.std.specs.Prelude.{slice_get}
 use Rattle.std.proofs.lemmas.Grind.{common_steps}
 use Rattle.std.proofs.lemmas.Option.{gets}
-use Rattle.mvm_shape.specs.Numbers.{look}
-use Rattle.mvm_shape.proofs.Numbering.{next_number, numbered}
-use Rattle.mvm_shape.proofs.numbers.numbers.Goals as goal
+use Rattle.mvm_shape.specs.TextNumbers.{look}
+use Rattle.mvm_shape.proofs.TextNumbers.{next_number, numbered}
+use Rattle.mvm_shape.proofs.text_numbers.numbers.Goals as goal
 
 pub loop-i-preserved : goal.loop-i-preserved
 loop-i-preserved c =

@@ -1,7 +1,7 @@
 use Rattle.std.proofs.Common.{◌≡◌, length}
-use Rattle.mvm_shape.specs.Numbers.{look}
-use Rattle.mvm_shape.proofs.Numbering.{Numbering}
-use Rattle.mvm_shape.proofs.numbers.numbers.Given as goal
+use Rattle.mvm_shape.specs.TextNumbers.{look}
+use Rattle.mvm_shape.proofs.TextNumbers.{Numbering}
+use Rattle.mvm_shape.proofs.text_numbers.numbers.Given as goal
 
 abbrev pub invariant-loop-i : goal.invariant-loop-i
 invariant-loop-i l = record {

@@ -1,5 +1,5 @@
-use Rattle.mvm_shape.proofs.Numbering.{pair_added}
-use Rattle.mvm_shape.proofs.numbers.add_pair.Goals as goal
+use Rattle.mvm_shape.proofs.TextNumbers.{pair_added}
+use Rattle.mvm_shape.proofs.text_numbers.add_pair.Goals as goal
 
 pub returns-in_ok-is_new-in-Some-desc-clause-next : goal.returns-in_ok-is_new-in-Some-desc-clause-next
 returns-in_ok-is_new-in-Some-desc-clause-next c = λ a b.

@@ -3,14 +3,13 @@ ghost use Rattle.mvm_base.specs.Answers.{AnswersUnless};
 ghost use Rattle.mvm_layout.specs.Bounds.{StandsWithin};
 ghost use Rattle.mvm_base.specs.Rules.{each_after};
 ghost use Rattle.mvm_shape.specs.Members.{field_rule, method_rule};
-ghost use Rattle.mvm_shape.specs.Facts.{all_facts};
-ghost use Rattle.mvm_shape.specs.Numbers.{AreNumbers};
+ghost use Rattle.mvm_shape.specs.TextFacts.{all_facts};
+ghost use Rattle.mvm_shape.specs.TextNumbers.{AreNumbers};
 ghost use Rattle.mvm_layout.specs.Flags.{is_interface};
 
-use crate::facts::TextFacts;
+use crate::text_facts::TextFacts;
 use crate::members::{test_field, test_method};
-use crate::numbers::is_repeated;
-use mvm_layout::flags::is_interface;
+use crate::text_numbers::is_repeated;
 use mvm_layout::{ClassFault, ClassInfo};
 use std::alloc::Global;
 use std::collections::BTreeSet;
@@ -28,12 +27,10 @@ pub(crate) fn test_fields(
     requires within { All StandsWithin info.now.fields }
     ensures { AnswersUnless ClassFault.OutOfMemory result (each_after [] (field_rule info.now.pool (is_interface info.now.flags)) info.now.fields) }
 {
-    let is_interface = is_interface(info.flags);
-    let fields = info.fields.as_slice();
     let mut pairs = BTreeSet::new(alloc);
-    for i in 0..fields.len() {
-        let repeated = is_repeated(&mut pairs, &info.pool, numbers, &fields[i])?;
-        test_field(&info.pool, rows, is_interface, repeated, &fields[i])?;
+    for field in info.fields.as_slice() {
+        let repeated = is_repeated(&mut pairs, &info.pool, numbers, field)?;
+        test_field(info, rows, repeated, field)?;
     }
     Ok(())
 }
@@ -51,11 +48,10 @@ pub(crate) fn test_methods(
     requires within { All StandsWithin info.now.methods }
     ensures { AnswersUnless ClassFault.OutOfMemory result (each_after [] (method_rule info.now.pool info.now.major (is_interface info.now.flags)) info.now.methods) }
 {
-    let methods = info.methods.as_slice();
     let mut pairs = BTreeSet::new(alloc);
-    for i in 0..methods.len() {
-        let repeated = is_repeated(&mut pairs, &info.pool, numbers, &methods[i])?;
-        test_method(alloc, info, rows, repeated, &methods[i])?;
+    for method in info.methods.as_slice() {
+        let repeated = is_repeated(&mut pairs, &info.pool, numbers, method)?;
+        test_method(alloc, info, rows, repeated, method)?;
     }
     Ok(())
 }

@@ -81,10 +81,9 @@ pub(crate) fn field_parts(
 ) -> Result<List<Member>, OutOfMemory>
     ensures { IfOk result (λ parts. parts ≡ map (field_part pool.now) fields.now) }
 {
-    let all = fields.as_slice();
     let mut parts = List::new(alloc);
-    for i in 0..all.len() {
-        parts.push(field_part(pool, &all[i]))?;
+    for field in fields.as_slice() {
+        parts.push(field_part(pool, field))?;
     }
     Ok(parts)
 }
@@ -97,10 +96,9 @@ pub(crate) fn method_parts(
 ) -> Result<List<Member>, OutOfMemory>
     ensures { IfOk result (λ parts. parts ≡ map (method_part pool.now) methods.now) }
 {
-    let all = methods.as_slice();
     let mut parts = List::new(alloc);
-    for i in 0..all.len() {
-        let part = method_part(alloc, pool, &all[i])?;
+    for method in methods.as_slice() {
+        let part = method_part(alloc, pool, method)?;
         parts.push(part)?;
     }
     Ok(parts)

@@ -13,8 +13,8 @@ use Rattle.mvm_base.specs.declared.descriptor.DescFault.TheVariants as desc_faul
 use Rattle.mvm_layout.specs.Flags.{is_static}
 use Rattle.mvm_shape.specs.Members.{is_unqualified, is_method_name, holds, parsed, field_descriptor, method_descriptor, has_few_parameters}
 use Rattle.mvm_layout.specs.Pool.{text, text_of}
-use Rattle.mvm_shape.specs.Facts.{facts_of, facts_of_item, all_facts, flattened, as_field, as_method, read_as, tested_as, is_known_field, is_known_method, known_field, known_method}
-use Rattle.mvm_shape.specs.declared.facts.TextFacts.{TextFacts}
+use Rattle.mvm_shape.specs.TextFacts.{facts_of, facts_of_item, all_facts, flattened, as_field, as_method, read_as, tested_as, is_known_field, is_known_method, known_field, known_method}
+use Rattle.mvm_shape.specs.declared.text_facts.TextFacts.{TextFacts}
 
 of_entry : (item : Option Item) → flattened (option_map facts_of_item item) ≡ option_map facts_of (text_of item)
 of_entry None = refl
