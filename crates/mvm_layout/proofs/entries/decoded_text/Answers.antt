@@ -1,12 +1,15 @@
 use Rattle.std.proofs.Common.{◌≡◌, ℕ, List, Ok, Err, sym}
-use Rattle.mvm_base.specs.ModifiedUtf8.{Decodes}
+use Rattle.mvm_base.specs.Answers.{AnswersUnless}
 use Rattle.mvm_base.specs.declared.modified_utf8.Utf8Fault.{Utf8Fault}
 use Rattle.mvm_base.specs.declared.modified_utf8.Utf8Fault.TheVariants.{Bad, OutOfMemory}
 use Rattle.mvm_layout.proofs.Texts.{decoded_text-complete, decoded_text-none}
 use Rattle.mvm_layout.proofs.entries.decoded_text.Goals as goal
 
-not_decoded : (fault : Utf8Fault) (place : ℕ) (units : List ℕ) → fault ≡ Bad place → Decodes (Err fault) (Ok units) → ⊥
-not_decoded (Bad at) place units e d = absurd cc
+not_bad : (place : ℕ) (units : List ℕ) → AnswersUnless OutOfMemory (Err (Bad place)) (Ok units) → ⊥
+not_bad place units d = let e = d (λ wanted. cc) in cc
+
+not_decoded : (fault : Utf8Fault) (place : ℕ) (units : List ℕ) → fault ≡ Bad place → AnswersUnless OutOfMemory (Err fault) (Ok units) → ⊥
+not_decoded (Bad at) place units e d = not_bad at units d
 not_decoded OutOfMemory place units e d = absurd cc
 
 pub returns-in-Ok : goal.returns-in-Ok
