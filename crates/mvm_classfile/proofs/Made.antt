@@ -1,5 +1,7 @@
 -- The parts of a class file can be written, and what is written of them reads as them.
 use Rattle.std.proofs.Common.{◌≡◌, ℕ, ◌+◌, ◌<◌, ◌≤◌, ◌^◌, Bool, true, List, [], ◌++◌, length, Result, Ok, refl, sym, ap, subst, ◌∙◌, length-append, append_assoc, arith}
+use Rattle.mvm_base.proofs.Bytes.{left_bytes, right_bytes}
+use Rattle.mvm_base.specs.Bytes.{AreBytes}
 use Rattle.std.specs.Prelude.{nat_lt, map}
 use Rattle.std.specs.List.{flat_map, list_all}
 use Rattle.std.proofs.lemmas.Bool.{lt-ltb}
@@ -18,9 +20,9 @@ use Rattle.mvm_base.specs.Rules.{each_after}
 use Rattle.mvm_shape.specs.Members.{field_rule, method_rule, field_part, method_part}
 use Rattle.mvm_layout.specs.Flags.{is_interface}
 use Rattle.mvm_shape.specs.Shape.{parts_of}
-use Rattle.mvm_classfile.specs.Reading.{AreBytes, IsClassFile}
+use Rattle.mvm_classfile.specs.Reading.{IsClassFile}
 use Rattle.mvm_classfile.specs.Writing.{u2, u4, names_in, written_pool, written_member, written_members, written, fits_code, lists_fit, has_few_bytes, is_countable, fits, rebuilt}
-use Rattle.mvm_classfile.proofs.Plain.{left_bytes, right_bytes, counted_lt}
+use Rattle.mvm_classfile.proofs.Plain.{counted_lt}
 use Rattle.mvm_classfile.proofs.Items.{pool_plain, PoolShort, pool_short}
 use Rattle.mvm_classfile.proofs.Pieces.{MemberFits, member_fits, counted_each, interfaces_plain, interfaces_lt, at_least_two}
 use Rattle.mvm_classfile.proofs.Rule.{kept, and_again}

@@ -34,7 +34,7 @@ unfoldable pub method_info : Names → ℕ → Member → MemberInfo
 method_info names at m = record { at = at; flags = m.flags; name = m.name; desc = m.desc; attributes = code_infos names ((((at + 2) + 2) + 2) + 2) m.code }
 
 -- the code of a method of these flags
-pub record IsCode (pool : List Item) (names : Names) (c : Code) : Type 0 where
+pub record IsWritten (pool : List Item) (names : Names) (c : Code) : Type 0 where
   pub named : is_text (codes "Code") (text pool names.code) ≡ true
   pub low : names.code < 256 ^ 2
   pub spelled : (at : ℕ) → code.spells (record { code = c; attributes = [] }) at (written_code c)
@@ -42,7 +42,7 @@ pub record IsCode (pool : List Item) (names : Names) (c : Code) : Type 0 where
 
 abbrev pub CodeSound : List Item → Names → ℕ → Option Code → Type 0
 CodeSound pool names flags None = has_no_code flags ≡ true
-CodeSound pool names flags (Some c) = (has_no_code flags ≡ false) × IsCode pool names c
+CodeSound pool names flags (Some c) = (has_no_code flags ≡ false) × IsWritten pool names c
 
 method_spelled_at : (pool : List Item) (names : Names) (at flags name desc : ℕ) (c : Option Code) → flags < 256 ^ 2 → name < 256 ^ 2 → desc < 256 ^ 2 → CodeSound pool names flags c
     → member.spells (method_info names at (record { flags = flags; name = name; desc = desc; constant = None; code = c })) at (written_member names (record { flags = flags; name = name; desc = desc; constant = None; code = c }))
@@ -137,7 +137,7 @@ code_sound pool names major is_interface before m serves fits e =
 
 -- ---- the method built anew
 
-code_is_in : (pool : List Item) (names : Names) (at : ℕ) (c : Code) → IsCode pool names c → code_in (record { at = at; name = names.code; content = written_code c }) ≡ Some (record { code = c; attributes = [] })
+code_is_in : (pool : List Item) (names : Names) (at : ℕ) (c : Code) → IsWritten pool names c → code_in (record { at = at; name = names.code; content = written_code c }) ≡ Some (record { code = c; attributes = [] })
 code_is_in pool names at c h = code_in-complete (record { at = at; name = names.code; content = written_code c }) (record { code = c; attributes = [] }) (h.spelled (at + 6))
 
 same_at : (pool : List Item) (names : Names) (at flags name desc : ℕ) (c : Option Code) → CodeSound pool names flags c

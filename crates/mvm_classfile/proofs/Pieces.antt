@@ -1,5 +1,7 @@
 -- Attributes, members and code by their pieces: what fits where it is spelled, and what spells what is built anew.
 use Rattle.std.proofs.Common.{◌≡◌, ℕ, zero, suc, ◌+◌, ◌<◌, ◌≤◌, ◌^◌, Bool, true, false, ◌&&◌, Some, List, [], ◌∷◌, ◌++◌, length, refl, sym, ap, subst, ◌∙◌, length-append, append_assoc, arith}
+use Rattle.mvm_base.proofs.Bytes.{left_bytes, right_bytes}
+use Rattle.mvm_base.specs.Bytes.{AreBytes}
 use Rattle.std.specs.Prelude.{nat_le}
 use Rattle.std.specs.List.{flat_map}
 use Rattle.std.proofs.lemmas.Bool.{leb-true}
@@ -11,9 +13,8 @@ use Rattle.mvm_layout.specs.declared.parts.Code.{Code}
 use Rattle.mvm_layout.specs.declared.parts.Row.{Row}
 use Rattle.mvm_layout.specs.declared.info.MemberInfo.{MemberInfo}
 use Rattle.mvm_layout.specs.declared.info.CodeInfo.{CodeInfo}
-use Rattle.mvm_classfile.specs.Reading.{AreBytes}
 use Rattle.mvm_classfile.specs.Writing.{u2, u4, written_attribute, written_row, written_code}
-use Rattle.mvm_classfile.proofs.Plain.{both_hold, passes, Plain, left_bytes, right_bytes, number_lt, number_again, plain_u2, plain_u4, plain_bytes, plain_followed, plain_mapped, plain_passing, plain_counted, counted_lt}
+use Rattle.mvm_classfile.proofs.Plain.{both_hold, passes, Plain, number_lt, number_again, plain_u2, plain_u4, plain_bytes, plain_followed, plain_mapped, plain_passing_at, plain_counted, counted_lt}
 
 -- it holds of each of them
 abbrev pub Each : {A : Type 0} → (A → Type 0) → List A → Type 0
@@ -144,7 +145,7 @@ content_plain =
 
 instructions_plain : Plain instructions (λ text. u4 (length text) ++ text)
 unfolding instructions
-instructions_plain = plain_passing _ _ content (λ text. u4 (length text) ++ text) content_plain
+instructions_plain = plain_passing_at _ _ content (λ text. u4 (length text) ++ text) content_plain
 
 pub record CodeFits (c : Code) (old : List ℕ) : Type 0 where
   pub spelled : (at : ℕ) → code.spells (record { code = c; attributes = [] }) at (written_code c)

@@ -1,5 +1,7 @@
 -- What is written of a class file reads as the class file again.
 use Rattle.std.proofs.Common.{◌≡◌, ℕ, ◌+◌, ◌*◌, ◌<◌, ◌^◌, Bool, true, false, List, [], ◌∷◌, ◌++◌, length, Some, refl, sym, ap, subst, ◌∙◌, append_assoc, arith}
+use Rattle.mvm_base.proofs.Bytes.{left_bytes, right_bytes}
+use Rattle.mvm_base.specs.Bytes.{AreBytes}
 use Rattle.std.specs.Prelude.{map, codes}
 use Rattle.std.specs.List.{flat_map}
 use Rattle.std.proofs.lemmas.List.{length-map}
@@ -17,9 +19,9 @@ use Rattle.mvm_base.specs.Rules.{expect, each_from, each_after}
 use Rattle.mvm_shape.specs.Members.{field_rule, method_rule, field_part, method_part}
 use Rattle.mvm_layout.specs.Flags.{is_interface}
 use Rattle.mvm_shape.specs.Shape.{linked, has_superclass, are_interfaces, header, rules, parts_of}
-use Rattle.mvm_classfile.specs.Reading.{AreBytes, Reads, IsClassFile}
+use Rattle.mvm_classfile.specs.Reading.{Reads, IsClassFile}
 use Rattle.mvm_classfile.specs.Writing.{u2, u4, names_in, written_pool, written_member, written_members, written}
-use Rattle.mvm_classfile.proofs.Plain.{passes, left_bytes, right_bytes, number_lt, number_again, plain_u2, counted_lt}
+use Rattle.mvm_classfile.proofs.Plain.{passes, number_lt, number_again, plain_u2, counted_lt}
 use Rattle.mvm_classfile.proofs.Items.{pool_plain}
 use Rattle.mvm_classfile.proofs.Named.{name_index_is}
 use Rattle.mvm_classfile.proofs.Pieces.{Each, MemberFits, member_fits, counted_each, counted_again, again, interfaces_plain}

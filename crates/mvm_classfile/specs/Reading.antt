@@ -1,6 +1,7 @@
 -- Class files as a whole (JVM Specification, chapter 4): what bytes read as, and their first fault.
-use Rattle.std.specs.Prelude.{◌≡◌, ◌<◌, ◌^◌, ℕ, List, length, get_or, Option, Some, None, Result, Ok, Err}
+use Rattle.std.specs.Prelude.{◌≡◌, ◌<◌, ◌^◌, ℕ, List, length, Option, Some, None, Result, Ok, Err}
 use Rattle.mvm_base.specs.Answers.{◌>>=◌}
+use Rattle.mvm_base.specs.Bytes.{AreBytes}
 use Rattle.mvm_layout.specs.Layout.{layout, laid}
 use Rattle.mvm_layout.specs.declared.fault.ClassFault.{ClassFault}
 use Rattle.mvm_layout.specs.declared.fault.ClassFault.TheVariants.{OutOfMemory}
@@ -44,10 +45,6 @@ abbrev pub Says : List ℕ → Result Parts ClassFault → Type 0
 Says text (Ok parts) = Reads text parts
 Says text (Err OutOfMemory) = Unit {0}
 Says text (Err fault) = fault_of text ≡ Some fault
-
--- the items of a list of bytes
-abbrev pub AreBytes : List ℕ → Type 0
-AreBytes text = (place : ℕ) → get_or text place 0 < 256
 
 -- some bytes, fewer than 2^32, read as these parts
 pub record IsClassFile (parts : Parts) : Type 0 where
