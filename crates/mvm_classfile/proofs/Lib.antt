@@ -10,3 +10,4 @@ pub mod Whole
 pub mod Shorter
 pub mod Made
 pub mod Kept
+pub mod Codes

@@ -102,12 +102,10 @@ is_in pool a k named =
     by None e r = absurd (let z = rw e at r in cc)
 
 -- the first Code of a method is code
-pub first_code : (pool : List Item) (major : ℕ) (is_interface : Bool) (before : List MemberInfo) (m : MemberInfo) (a : AttributeParts) (more : List AttributeParts) → MemberFits m
-    → filter (is_named pool (codes "Code")) m.attributes ≡ a ∷ more → method_rule pool major is_interface before m ≡ kept → AttributeFits a × IsIn a
-unfolding method_rule
-first_code pool major is_interface before m a more fits f k =
-    let rule = (method_kept pool major is_interface (is_repeated pool before m) m k).0.attributes in
-    let one = first_found AttributeFits (is_named pool (codes "Code")) (method_attribute pool) m.attributes more a fits.attributes rule f in
+pub first_code : (pool : List Item) (P : AttributeParts → Type 0) (attributes : List AttributeParts) (a : AttributeParts) (more : List AttributeParts) → Each P attributes
+    → filter (is_named pool (codes "Code")) attributes ≡ a ∷ more → each (method_attribute pool) attributes ≡ kept → P a × IsIn a
+first_code pool P attributes a more p f k =
+    let one = first_found P (is_named pool (codes "Code")) (method_attribute pool) attributes more a p k f in
     (one.fits, is_in pool a one.keeps one.passes)
 
 sound_of : (pool : List Item) (names : Names) (a : AttributeParts) (flags : ℕ) → Serves pool (codes "Code") names.code → AttributeFits a → is_named pool (codes "Code") a ≡ true → IsIn a → has_no_code flags ≡ false
