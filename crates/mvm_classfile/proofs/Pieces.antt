@@ -169,7 +169,7 @@ pub code_length : (info : CodeInfo) (at : ℕ) (text : List ℕ) → code.spells
 unfolding code
 code_length info at text s = let j = s.1.3.3 in subst (λ (z : CodeInfo). IsCodeLength z.code.bytes) s.2 (instructions_length _ _ j.0 j.2)
 
-no_attributes : (at : ℕ) → attributes.spells [] at (u2 0)
+pub no_attributes : (at : ℕ) → attributes.spells [] at (u2 0)
 unfolding attributes
 no_attributes at = counted_again attribute 0 [] at [] (omega arith) (refl, refl)
 

@@ -24,7 +24,7 @@ use Rattle.mvm_classfile.specs.Writing.{u2, u4, names_in, written_pool, written_
 use Rattle.mvm_classfile.proofs.Plain.{passes, number_lt, number_again, plain_u2, counted_lt}
 use Rattle.mvm_classfile.proofs.Items.{pool_plain}
 use Rattle.mvm_classfile.proofs.Named.{name_index_is}
-use Rattle.mvm_classfile.proofs.Pieces.{Each, MemberFits, member_fits, counted_each, counted_again, again, interfaces_plain}
+use Rattle.mvm_classfile.proofs.Pieces.{Each, MemberFits, member_fits, counted_each, counted_again, no_attributes, again, interfaces_plain}
 use Rattle.mvm_classfile.proofs.Rule.{kept, holds_true, holds_again, both, both_again}
 use Rattle.mvm_classfile.proofs.Fields.{Serves, fields_again}
 use Rattle.mvm_classfile.proofs.Methods.{methods_again}
@@ -55,7 +55,7 @@ members_each : (ms : List MemberInfo) (at : ℕ) (t : List ℕ) → AreBytes t �
 unfolding members
 members_each ms at t b s = counted_each member MemberFits member_fits ms at t b s
 
-members_lt : (ms : List MemberInfo) (at : ℕ) (t : List ℕ) → AreBytes t → members.spells ms at t → length ms < 256 ^ 2
+pub members_lt : (ms : List MemberInfo) (at : ℕ) (t : List ℕ) → AreBytes t → members.spells ms at t → length ms < 256 ^ 2
 unfolding members
 members_lt ms at t b s = counted_lt member ms at t b s
 
@@ -147,10 +147,6 @@ members_again : (ms : List MemberInfo) (n at : ℕ) (t : List ℕ) → n < 256 ^
 unfolding members
 members_again ms n at t h s = counted_again member n ms at t h s
 
-none_again : (at : ℕ) → attributes.spells [] at (u2 0)
-unfolding attributes
-none_again at = counted_again attribute 0 [] at [] (omega arith) (refl, refl)
-
 body_again : (place flags this super : ℕ) (is : List ℕ) (fields methods : List MemberInfo) (it ft mt : List ℕ) → flags < 256 ^ 2 → this < 256 ^ 2 → super < 256 ^ 2 → ((at : ℕ) → interfaces.spells is at it)
     → members.spells fields ((((place + 2) + 2) + 2) + length it) ft → members.spells methods (((((place + 2) + 2) + 2) + length it) + length ft) mt
     → body.spells ((place, flags), (this, (super, (is, (fields, (methods, [])))))) place (u2 flags ++ (u2 this ++ (u2 super ++ (it ++ (ft ++ (mt ++ u2 0))))))
@@ -175,7 +171,7 @@ body_again place flags this super is fields methods it ft mt f t s i fs ms = (
           ft,
           mt ++ u2 0,
           fs,
-          (mt, u2 0, ms, none_again ((((((place + 2) + 2) + 2) + length it) + length ft) + length mt), refl),
+          (mt, u2 0, ms, no_attributes ((((((place + 2) + 2) + 2) + length it) + length ft) + length mt), refl),
           refl,
         ),
         refl,
