@@ -1,5 +1,7 @@
 -- The parts of a class file can be written, and what is written of them reads as them.
 use Rattle.std.proofs.Common.{◌≡◌, ℕ, ◌+◌, ◌<◌, ◌≤◌, ◌^◌, Bool, true, List, [], ◌++◌, length, Result, Ok, refl, sym, ap, subst, ◌∙◌, length-append, append_assoc, arith}
+use Rattle.mvm_base.proofs.Bytes.{left_bytes, right_bytes}
+use Rattle.mvm_base.specs.Bytes.{AreBytes}
 use Rattle.std.specs.Prelude.{nat_lt, map}
 use Rattle.std.specs.List.{flat_map, list_all}
 use Rattle.std.proofs.lemmas.Bool.{lt-ltb}
@@ -18,25 +20,21 @@ use Rattle.mvm_base.specs.Rules.{each_after}
 use Rattle.mvm_shape.specs.Members.{field_rule, method_rule, field_part, method_part}
 use Rattle.mvm_layout.specs.Flags.{is_interface}
 use Rattle.mvm_shape.specs.Shape.{parts_of}
-use Rattle.mvm_classfile.specs.Reading.{AreBytes, IsClassFile}
+use Rattle.mvm_classfile.specs.Reading.{IsClassFile}
 use Rattle.mvm_classfile.specs.Writing.{u2, u4, names_in, written_pool, written_member, written_members, written, fits_code, lists_fit, has_few_bytes, is_countable, fits, rebuilt}
-use Rattle.mvm_classfile.proofs.Plain.{left_bytes, right_bytes, counted_lt}
+use Rattle.mvm_classfile.proofs.Plain.{counted_lt}
 use Rattle.mvm_classfile.proofs.Items.{pool_plain, PoolShort, pool_short}
 use Rattle.mvm_classfile.proofs.Pieces.{MemberFits, member_fits, counted_each, interfaces_plain, interfaces_lt, at_least_two}
 use Rattle.mvm_classfile.proofs.Rule.{kept, and_again}
 use Rattle.mvm_classfile.proofs.Shorter.{fields_shorter, methods_short, fields_rows}
 use Rattle.mvm_classfile.proofs.Answered.{reading-complete}
-use Rattle.mvm_classfile.proofs.Whole.{rules_kept, written_again}
+use Rattle.mvm_classfile.proofs.Whole.{members_lt, rules_kept, written_again}
 
 -- the written form of these members
 abbrev written_list : List Item → List Member → List ℕ
 written_list pool ms = u2 (length ms) ++ flat_map (written_member (names_in pool)) ms
 
 -- ---- members
-
-members_count : (ms : List MemberInfo) (at : ℕ) (t : List ℕ) → AreBytes t → members.spells ms at t → length ms < 256 ^ 2
-unfolding members
-members_count ms at t b s = counted_lt member ms at t b s
 
 fields_room : (pool : List Item) (is : Bool) (ms : List MemberInfo) (at : ℕ) (t : List ℕ) → AreBytes t → members.spells ms at t → each_after [] (field_rule pool is) ms ≡ kept → length (written_list pool (map (field_part pool) ms)) ≤ length t
 unfolding members
@@ -107,8 +105,8 @@ body_short pool version is x at t b h fk mk =
     let n = at_least_two x.1.1.1.1.1.1 _ m.1 m.3 in
     record {
       interfaces = interfaces_lt x.1.1.1.0 _ k.0 c3 k.2;
-      fields = members_count x.1.1.1.1.0 _ l.0 c4 l.2;
-      methods = members_count x.1.1.1.1.1.0 _ m.0 c5 m.2;
+      fields = members_lt x.1.1.1.1.0 _ l.0 c4 l.2;
+      methods = members_lt x.1.1.1.1.1.0 _ m.0 c5 m.2;
       rows = ms.rows;
       bytes = ms.bytes;
       room = omega (arith, pieces h.0 h.1 t h.4, h.2.1.0, pieces i.0 i.1 h.1 i.4, i.2.0, pieces j.0 j.1 i.1 j.4, j.2.0, pieces k.0 k.1 j.1 k.4, is_text, pieces l.0 l.1 k.1 l.4, f, pieces m.0 m.1 l.1 m.4, ms.room, n);

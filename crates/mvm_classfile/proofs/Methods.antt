@@ -19,8 +19,9 @@ use Rattle.mvm_layout.specs.Flags.{has_no_code}
 use Rattle.mvm_shape.specs.Members.{is_method_name, holds, method_descriptor, is_named, codes_among, named_attribute, code_attribute, method_attribute, is_repeated, is_sound_method, keeps_interface_flags, keeps_interface_version, tested_method, method_rule, first, code_of_info, code_of, method_part}
 use Rattle.mvm_classfile.specs.Writing.{u2, Names, written_attribute, written_code, written_member}
 use Rattle.mvm_classfile.proofs.Pieces.{Each, AttributeFits, MemberFits, code_fits, attribute_again, member_again, counted_again}
+use Rattle.mvm_classfile.proofs.Plain.{both_hold, not_true}
 use Rattle.mvm_classfile.proofs.Named.{text_is_utf8}
-use Rattle.mvm_classfile.proofs.Rule.{kept, holds_true, holds_again, both_hold, and_again, both, both_again, method_desc_again, first_found, key, met_again, key_more}
+use Rattle.mvm_classfile.proofs.Rule.{kept, holds_true, holds_again, and_again, both, both_again, method_desc_again, first_found, key, met_again, key_more}
 use Rattle.mvm_classfile.proofs.Fields.{Serves}
 
 -- ---- built anew
@@ -33,7 +34,7 @@ unfoldable pub method_info : Names → ℕ → Member → MemberInfo
 method_info names at m = record { at = at; flags = m.flags; name = m.name; desc = m.desc; attributes = code_infos names ((((at + 2) + 2) + 2) + 2) m.code }
 
 -- the code of a method of these flags
-pub record IsCode (pool : List Item) (names : Names) (c : Code) : Type 0 where
+pub record IsWritten (pool : List Item) (names : Names) (c : Code) : Type 0 where
   pub named : is_text (codes "Code") (text pool names.code) ≡ true
   pub low : names.code < 256 ^ 2
   pub spelled : (at : ℕ) → code.spells (record { code = c; attributes = [] }) at (written_code c)
@@ -41,7 +42,7 @@ pub record IsCode (pool : List Item) (names : Names) (c : Code) : Type 0 where
 
 abbrev pub CodeSound : List Item → Names → ℕ → Option Code → Type 0
 CodeSound pool names flags None = has_no_code flags ≡ true
-CodeSound pool names flags (Some c) = (has_no_code flags ≡ false) × IsCode pool names c
+CodeSound pool names flags (Some c) = (has_no_code flags ≡ false) × IsWritten pool names c
 
 method_spelled_at : (pool : List Item) (names : Names) (at flags name desc : ℕ) (c : Option Code) → flags < 256 ^ 2 → name < 256 ^ 2 → desc < 256 ^ 2 → CodeSound pool names flags c
     → member.spells (method_info names at (record { flags = flags; name = name; desc = desc; constant = None; code = c })) at (written_member names (record { flags = flags; name = name; desc = desc; constant = None; code = c }))
@@ -55,22 +56,18 @@ method_spelled_at pool names at flags name desc (Some x) f n d c =
 
 -- ---- the rule
 
-record MethodKept (pool : List Item) (major : ℕ) (is_interface repeated : Bool) (m : MemberInfo) : Type 0 where
-  met : repeated ≡ false
-  flags : keeps_interface_flags pool major is_interface m ≡ true
-  version : keeps_interface_version pool major is_interface m ≡ true
-  name : holds is_method_name (text pool m.name) ≡ true
-  desc : method_descriptor (m.at + 4) m.flags (text pool m.desc) ≡ kept
-  attributes : each (method_attribute pool) m.attributes ≡ kept
+pub record MethodKept (pool : List Item) (major : ℕ) (is_interface repeated : Bool) (m : MemberInfo) : Type 0 where
+  pub met : repeated ≡ false
+  pub flags : keeps_interface_flags pool major is_interface m ≡ true
+  pub version : keeps_interface_version pool major is_interface m ≡ true
+  pub name : holds is_method_name (text pool m.name) ≡ true
+  pub desc : method_descriptor (m.at + 4) m.flags (text pool m.desc) ≡ kept
+  pub attributes : each (method_attribute pool) m.attributes ≡ kept
 
-not_true : (b : Bool) → not b ≡ true → b ≡ false
-not_true true h = absurd cc
-not_true false h = refl
-
-abbrev HasCodes : List Item → MemberInfo → Type 0
+abbrev pub HasCodes : List Item → MemberInfo → Type 0
 HasCodes pool m = (length (codes_among pool m.attributes) == cond (has_no_code m.flags) 0 1) ≡ true
 
-method_kept : (pool : List Item) (major : ℕ) (is_interface repeated : Bool) (m : MemberInfo) → tested_method pool major is_interface repeated m ≡ kept → MethodKept pool major is_interface repeated m × HasCodes pool m
+pub method_kept : (pool : List Item) (major : ℕ) (is_interface repeated : Bool) (m : MemberInfo) → tested_method pool major is_interface repeated m ≡ kept → MethodKept pool major is_interface repeated m × HasCodes pool m
 unfolding tested_method is_sound_method
 method_kept pool major is_interface repeated m e =
     let a = both _ _ tt e in
@@ -105,12 +102,10 @@ is_in pool a k named =
     by None e r = absurd (let z = rw e at r in cc)
 
 -- the first Code of a method is code
-pub first_code : (pool : List Item) (major : ℕ) (is_interface : Bool) (before : List MemberInfo) (m : MemberInfo) (a : AttributeParts) (more : List AttributeParts) → MemberFits m
-    → filter (is_named pool (codes "Code")) m.attributes ≡ a ∷ more → method_rule pool major is_interface before m ≡ kept → AttributeFits a × IsIn a
-unfolding method_rule
-first_code pool major is_interface before m a more fits f k =
-    let rule = (method_kept pool major is_interface (is_repeated pool before m) m k).0.attributes in
-    let one = first_found AttributeFits (is_named pool (codes "Code")) (method_attribute pool) m.attributes more a fits.attributes rule f in
+pub first_code : (pool : List Item) (P : AttributeParts → Type 0) (attributes : List AttributeParts) (a : AttributeParts) (more : List AttributeParts) → Each P attributes
+    → filter (is_named pool (codes "Code")) attributes ≡ a ∷ more → each (method_attribute pool) attributes ≡ kept → P a × IsIn a
+first_code pool P attributes a more p f k =
+    let one = first_found P (is_named pool (codes "Code")) (method_attribute pool) attributes more a p k f in
     (one.fits, is_in pool a one.keeps one.passes)
 
 sound_of : (pool : List Item) (names : Names) (a : AttributeParts) (flags : ℕ) → Serves pool (codes "Code") names.code → AttributeFits a → is_named pool (codes "Code") a ≡ true → IsIn a → has_no_code flags ≡ false
@@ -131,7 +126,7 @@ code_sound_at pool names m false (a ∷ more) serves fits s f n k =
     let one = first_found AttributeFits (is_named pool (codes "Code")) (method_attribute pool) m.attributes more a fits.attributes k f in
     sound_of pool names a m.flags serves one.fits one.passes (is_in pool a one.keeps one.passes) s
 
-code_sound : (pool : List Item) (names : Names) (major : ℕ) (is_interface : Bool) (before : List MemberInfo) (m : MemberInfo) → Serves pool (codes "Code") names.code → MemberFits m → method_rule pool major is_interface before m ≡ kept
+pub code_sound : (pool : List Item) (names : Names) (major : ℕ) (is_interface : Bool) (before : List MemberInfo) (m : MemberInfo) → Serves pool (codes "Code") names.code → MemberFits m → method_rule pool major is_interface before m ≡ kept
     → CodeSound pool names m.flags (method_part pool m).code
 unfolding method_part method_rule
 code_sound pool names major is_interface before m serves fits e =
@@ -140,7 +135,7 @@ code_sound pool names major is_interface before m serves fits e =
 
 -- ---- the method built anew
 
-code_is_in : (pool : List Item) (names : Names) (at : ℕ) (c : Code) → IsCode pool names c → code_in (record { at = at; name = names.code; content = written_code c }) ≡ Some (record { code = c; attributes = [] })
+code_is_in : (pool : List Item) (names : Names) (at : ℕ) (c : Code) → IsWritten pool names c → code_in (record { at = at; name = names.code; content = written_code c }) ≡ Some (record { code = c; attributes = [] })
 code_is_in pool names at c h = code_in-complete (record { at = at; name = names.code; content = written_code c }) (record { code = c; attributes = [] }) (h.spelled (at + 6))
 
 same_at : (pool : List Item) (names : Names) (at flags name desc : ℕ) (c : Option Code) → CodeSound pool names flags c

@@ -15,12 +15,12 @@ use Rattle.mvm_layout.specs.declared.info.CodeInfo.{CodeInfo}
 use Rattle.mvm_layout.proofs.Layouts.{code_in-sound}
 use Rattle.mvm_base.specs.Rules.{each_after}
 use Rattle.mvm_layout.specs.Flags.{is_static}
-use Rattle.mvm_shape.specs.Members.{is_named, field_rule, method_rule, first, index_in, field_part, code_of_info, code_of, method_part}
+use Rattle.mvm_shape.specs.Members.{is_named, is_repeated, field_rule, method_rule, first, index_in, field_part, code_of_info, code_of, method_part}
 use Rattle.mvm_classfile.specs.Writing.{Names, written_code, written_member, fits_code, has_few_bytes}
-use Rattle.mvm_classfile.proofs.Pieces.{Each, MemberFits, CodeFits, code_fits, at_least_two}
+use Rattle.mvm_classfile.proofs.Pieces.{Each, AttributeFits, MemberFits, CodeFits, code_fits, at_least_two}
 use Rattle.mvm_classfile.proofs.Rule.{kept, both}
 use Rattle.mvm_classfile.proofs.Fields.{constant_length}
-use Rattle.mvm_classfile.proofs.Methods.{first_code}
+use Rattle.mvm_classfile.proofs.Methods.{method_kept, first_code}
 
 -- ---- attributes
 
@@ -131,8 +131,10 @@ code_short pool m (a ∷ more) t x f has =
 
 has_code : (pool : List Item) (major : ℕ) (is_interface : Bool) (before : List MemberInfo) (m : MemberInfo) → MemberFits m → method_rule pool major is_interface before m ≡ kept
     → (a : AttributeParts) (more : List AttributeParts) → filter (is_named pool (codes "Code")) m.attributes ≡ a ∷ more → (info : CodeInfo) × (code_in a ≡ Some info) × CodeFits info.code a.content
+unfolding method_rule
 has_code pool major is_interface before m fits k a more f =
-    let c = first_code pool major is_interface before m a more fits f k in
+    let rule = (method_kept pool major is_interface (is_repeated pool before m) m k).0.attributes in
+    let c = first_code pool AttributeFits m.attributes a more fits.attributes f rule in
     (c.1.info, c.1.is, code_fits c.1.info (a.at + 6) a.content c.0.bytes (code_in-sound a c.1.info c.1.is))
 
 method_short : (pool : List Item) (major : ℕ) (is_interface : Bool) (before : List MemberInfo) (m : MemberInfo) (at : ℕ) (t : List ℕ) → member.spells m at t → MemberFits m → method_rule pool major is_interface before m ≡ kept → CodeShort (method_part pool m).code t
