@@ -1,6 +1,6 @@
 -- Rules that are kept, and those of the values of a list.
-use Rattle.std.proofs.Common.{◌≡◌, ℕ, ◌+◌, ◌<◌, Bool, true, false, List, [], ◌∷◌, length, Result, Ok, Err, refl, subst, ⊎_elim}
-use Rattle.std.specs.Prelude.{◌&&◌, ◌||◌, ◌==◌}
+use Rattle.std.proofs.Common.{◌≡◌, ℕ, ◌+◌, Bool, true, false, List, [], ◌∷◌, Result, Ok, Err, refl, subst, ⊎_elim}
+use Rattle.std.specs.Prelude.{◌||◌, ◌==◌}
 use Rattle.std.specs.List.{All}
 use Rattle.std.proofs.lemmas.List.Elements.{All-nil, All-cons, All-head, All-tail}
 use Rattle.std.proofs.lemmas.Bool.{eqb-true, eq-eqb, or_cases}
@@ -50,9 +50,9 @@ module _ (rule : ℕ → Result (Unit {0}) CheckFault) where
       let parts = both (rule x) (each rule xs) e in
       let P : ℕ → Type 0 = λ n. rule n ≡ Ok tt in
       ⊎_elim
-          (λ same. subst P (eqb-true x place same) parts.0)
-          (λ more. each_place xs place parts.1 more)
-          (or_cases (x == place) (is_start xs place) h)
+      (λ same. subst P (eqb-true x place same) parts.0)
+      (λ more. each_place xs place parts.1 more)
+      (or_cases (x == place) (is_start xs place) h)
 
   pub each_place_again : (xs : List ℕ) → ((place : ℕ) → is_start xs place ≡ true → rule place ≡ Ok tt) → each rule xs ≡ Ok tt
   each_place_again [] h = refl

@@ -1,15 +1,16 @@
 -- No fault is found exactly where the code is sound.
-use Rattle.std.proofs.Common.{◌≡◌, ◌<◌, ◌≤◌, ◌⊎◌, ◌↔◌, inl, inr, ⊎_elim, ℕ, zero, suc, ◌+◌, ℤ, pos, negsuc, Bool, true, false, cond, List, [], ◌∷◌, length, Option, Some, None, Result, Ok, Err, refl, sym, ap, subst, ◌∙◌, arith}
-use Rattle.std.specs.Prelude.{OnOk, max, nat_lt, nat_le, not, ◌==◌, ◌||◌, ◌&&◌, IfSome}
+use Rattle.std.proofs.Common.{◌≡◌, ◌<◌, ◌≤◌, ◌⊎◌, inl, inr, ⊎_elim, ℕ, ℤ, pos, negsuc, Bool, true, false, cond, List, [], ◌∷◌, length, Option, Some, None, Result, Ok, Err, refl, arith}
+use Rattle.std.specs.Prelude.{OnOk, max, nat_le, not, ◌==◌, ◌||◌, IfSome}
 use Rattle.std.specs.List.{All, list_all}
-use Rattle.std.proofs.lemmas.List.Elements.{All-weaker}
-use Rattle.std.proofs.lemmas.List.Sums.{AllPass-from_list_all, list_all-from_AllPass}
+use Rattle.std.proofs.lemmas.List.Elements.{All-nil, All-cons, All-head, All-tail}
 use Rattle.std.proofs.lemmas.Bool.{ltb-true, lt-ltb, leb-true, le-leb, eqb-true, eq-eqb, ne_eqb, and_parts, and_from, or_cases, or_left, or_right, cases_lt, not_from_false}
 use Rattle.mvm_insn.specs.Insns.{insn}
 use Rattle.mvm_insn.proofs.Inside.{insn-inside}
 use Rattle.mvm_insn.specs.declared.fault.InsnFault.{InsnFault}
 use Rattle.mvm_insn.specs.declared.insn.At.{At}
 use Rattle.mvm_insn.specs.declared.insn.Insn.{Insn}
+use Rattle.mvm_insn.specs.declared.insn.Insn.TheVariants.{Plain, Number, Pool, Local, Inc, Jump, Choice, Interface, NewArray, Multi}
+use Rattle.mvm_insn.specs.declared.switch_rows.SwitchRow.{SwitchRow}
 use Rattle.mvm_layout.specs.declared.parts.Item.{Item}
 use Rattle.mvm_layout.specs.declared.parts.Row.{Row}
 use Rattle.mvm_layout.specs.declared.parts.Code.{Code}
@@ -17,13 +18,13 @@ use Rattle.mvm_layout.specs.declared.parts.Member.{Member}
 use Rattle.mvm_layout.specs.declared.parts.Parts.{Parts}
 use Rattle.mvm_layout.specs.Pool.{entry, is_class}
 use Rattle.mvm_base.specs.Answers.{AnswersUnless}
-use Rattle.mvm_base.specs.Rules.{expect, ◌and_then◌, each, each_from}
+use Rattle.mvm_base.specs.Rules.{expect, each, each_from}
 use Rattle.mvm_check.specs.Starts.{IsStart, first, next, starts_of, is_start, begins}
 use Rattle.mvm_check.specs.Operands.{has_operands, parameter_slots}
 use Rattle.mvm_check.specs.Locals.{locals_of, parameter_locals}
-use Rattle.mvm_check.specs.Instructions.{stood, stands, targets_of, has_targets, is_last, locals_at, has_locals, goes_on, kept, kept_if_stood, keeps}
+use Rattle.mvm_check.specs.Instructions.{stood, stands, targets_of_rows, has_targets, is_last, locals_at, has_locals, goes_on, kept, kept_if_stood, keeps}
 use Rattle.mvm_check.specs.Check.{covers, is_row, row_rule, stands_rule, keeps_rule, code_rule, code_rule_if, method_rule, check_of}
-use Rattle.mvm_check.specs.Sound.{StartsAt, SoundInsn, SoundAt, SoundRow, SoundCode, SoundMethod, IsSound}
+use Rattle.mvm_check.specs.Sound.{StartsAt, LandsOnStarts, SoundInsn, SoundAt, SoundRow, SoundCode, SoundMethod, IsSound}
 use Rattle.mvm_check.specs.declared.fault.CheckFault.{CheckFault}
 use Rattle.mvm_check.specs.declared.fault.CheckFault.TheVariants.{OutOfMemory}
 use Rattle.mvm_check.specs.declared.fault.CheckKind.TheVariants.{BadTarget, BadIndex, BadLocal, OffEnd, BadHandler}
@@ -40,13 +41,44 @@ begins_again : (code : List ℕ) (target : ℤ) → StartsAt code target → beg
 begins_again code (pos place) h = all_listed h
 begins_again code (negsuc n) h = absurd h
 
-targets_start : (code : List ℕ) (targets : List ℤ) → list_all (begins (starts_of code)) targets ≡ true → All (StartsAt code) targets
-targets_start code targets h =
-    All-weaker (λ target. begins (starts_of code) target ≡ true) (StartsAt code) (starts_at code) targets (AllPass-from_list_all (begins (starts_of code)) targets h)
+rows_start : (code : List ℕ) (rows : List SwitchRow) → list_all (begins (starts_of code)) (targets_of_rows rows) ≡ true → All (λ (row : SwitchRow). StartsAt code row.target) rows
+rows_start code [] h = All-nil (λ (row : SwitchRow). StartsAt code row.target)
+rows_start code (row ∷ rows) h =
+    let parts = and_parts (begins (starts_of code) row.target) (list_all (begins (starts_of code)) (targets_of_rows rows)) h in
+    All-cons (λ (row : SwitchRow). StartsAt code row.target) row rows (starts_at code row.target parts.0) (rows_start code rows parts.1)
 
-targets_again : (code : List ℕ) (targets : List ℤ) → All (StartsAt code) targets → list_all (begins (starts_of code)) targets ≡ true
-targets_again code targets h =
-    list_all-from_AllPass (begins (starts_of code)) targets (All-weaker (StartsAt code) (λ target. begins (starts_of code) target ≡ true) (begins_again code) targets h)
+rows_again : (code : List ℕ) (rows : List SwitchRow) → All (λ (row : SwitchRow). StartsAt code row.target) rows → list_all (begins (starts_of code)) (targets_of_rows rows) ≡ true
+rows_again code [] h = refl
+rows_again code (row ∷ rows) h =
+    and_from _ _
+    (begins_again code row.target (All-head (λ (row : SwitchRow). StartsAt code row.target) row rows h))
+    (rows_again code rows (All-tail (λ (row : SwitchRow). StartsAt code row.target) row rows h))
+
+targets_start : (code : List ℕ) (x : Insn) → has_targets (starts_of code) x ≡ true → LandsOnStarts code x
+targets_start code (Jump op target) h = starts_at code target (and_parts (begins (starts_of code) target) true h).0
+targets_start code (Choice op choice) h =
+    let parts = and_parts (begins (starts_of code) choice.otherwise) (list_all (begins (starts_of code)) (targets_of_rows choice.rows)) h in
+    (starts_at code choice.otherwise parts.0, rows_start code choice.rows parts.1)
+targets_start code (Plain op) h = tt
+targets_start code (Number op value) h = tt
+targets_start code (Pool op index) h = tt
+targets_start code (Local op local wide) h = tt
+targets_start code (Inc local by wide) h = tt
+targets_start code (Interface index count last) h = tt
+targets_start code (NewArray kind) h = tt
+targets_start code (Multi index dims) h = tt
+
+targets_again : (code : List ℕ) (x : Insn) → LandsOnStarts code x → has_targets (starts_of code) x ≡ true
+targets_again code (Jump op target) h = and_from _ _ (begins_again code target h) refl
+targets_again code (Choice op choice) h = and_from _ _ (begins_again code choice.otherwise h.0) (rows_again code choice.rows h.1)
+targets_again code (Plain op) h = refl
+targets_again code (Number op value) h = refl
+targets_again code (Pool op index) h = refl
+targets_again code (Local op local wide) h = refl
+targets_again code (Inc local by wide) h = refl
+targets_again code (Interface index count last) h = refl
+targets_again code (NewArray kind) h = refl
+targets_again code (Multi index dims) h = refl
 
 -- ---- local variables
 
@@ -94,7 +126,7 @@ module _ (pool : List Item) (parameters : ℕ) (code : Code) where
       let locals = both _ (expect (has_locals parameters code pc x.insn) BadLocal) last.0 in
       let operands = both (expect (has_targets (starts_of code.bytes) x.insn) BadTarget) (expect (has_operands pool x.insn) BadIndex) locals.0 in
       record {
-        targets = targets_start code.bytes (targets_of x.insn) (holds_true _ BadTarget operands.0);
+        targets = targets_start code.bytes x.insn (holds_true _ BadTarget operands.0);
         operands = holds_true _ BadIndex operands.1;
         locals = locals_fit parameters pc code.max_locals x.insn (holds_true _ BadLocal locals.1);
         behind = leads pc x s e (holds_true _ OffEnd last.1);
@@ -111,10 +143,10 @@ module _ (pool : List Item) (parameters : ℕ) (code : Code) where
   unfolding kept
   kept_again pc x p sound =
       both_again _ _ (both_again _ _ (both_again _ _
-          (holds_again _ BadTarget (targets_again code.bytes (targets_of x.insn) sound.targets))
-          (holds_again _ BadIndex sound.operands))
-          (holds_again _ BadLocal (locals_again parameters pc code.max_locals x.insn sound.locals p)))
-          (holds_again _ OffEnd (leads_again x sound.behind))
+      (holds_again _ BadTarget (targets_again code.bytes x.insn sound.targets))
+      (holds_again _ BadIndex sound.operands))
+      (holds_again _ BadLocal (locals_again parameters pc code.max_locals x.insn sound.locals p)))
+      (holds_again _ OffEnd (leads_again x sound.behind))
 
   sound_at : (pc : ℕ) → IsStart code.bytes pc → stands code.bytes pc ≡ Ok tt → keeps pool parameters code pc ≡ Ok tt → SoundAt pool code pc
   unfolding stands keeps
@@ -159,9 +191,9 @@ row_again : (pool : List Item) (code : Code) (row : Row) → SoundRow pool code 
 unfolding is_row covers
 row_again pool code row sound =
     and_from _ _ (and_from _ _ (and_from _ _ (lt-ltb 0 code.max_stack sound.stack)
-        (and_from _ _ (and_from _ _ (lt-ltb row.start row.end sound.covers) (all_listed sound.start)) (ends sound.end)))
-        (all_listed sound.handler))
-        (catches sound.catch)
+    (and_from _ _ (and_from _ _ (lt-ltb row.start row.end sound.covers) (all_listed sound.start)) (ends sound.end)))
+    (all_listed sound.handler))
+    (catches sound.catch)
   where
     ends : IsStart code.bytes row.end ⊎ (row.end ≡ length code.bytes) → (row.end == length code.bytes || is_start (starts_of code.bytes) row.end) ≡ true
     ends (inl s) = or_right (row.end == length code.bytes) _ (all_listed s)
@@ -216,9 +248,9 @@ module _ (pool : List Item) (method parameters : ℕ) (code : Code) where
   unfolding code_rule
   code_again sound =
       both_again _ _ (both_again _ _
-          (each_place_again (stands_rule method code.bytes) (starts_of code.bytes) stand)
-          (each_place_again (keeps_rule pool method parameters code) (starts_of code.bytes) keep))
-          (each_numbered_again (SoundRow pool code) (row_rule pool method code) row_rule_again 0 code.rows sound.rows)
+      (each_place_again (stands_rule method code.bytes) (starts_of code.bytes) stand)
+      (each_place_again (keeps_rule pool method parameters code) (starts_of code.bytes) keep))
+      (each_numbered_again (SoundRow pool code) (row_rule pool method code) row_rule_again 0 code.rows sound.rows)
     where
       stand : (pc : ℕ) → is_start (starts_of code.bytes) pc ≡ true → stands_rule method code.bytes pc ≡ Ok tt
       stand pc h = stood_again pc (stands_again pool parameters code pc (sound.instructions pc (listed code.bytes pc h)))

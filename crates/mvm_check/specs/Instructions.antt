@@ -1,8 +1,7 @@
 -- The rules of one instruction (JVM Specification 4.9.1, 4.9.2).
-use Rattle.std.specs.Prelude.{ℕ, max, ℤ, List, [], ◌∷◌, length, map, Bool, true, false, not, nat_le, ◌&&◌, ◌||◌, ◌==◌, if◌then◌else◌, Result, Ok, Err}
+use Rattle.std.specs.Prelude.{ℕ, max, ℤ, List, [], ◌∷◌, length, map, Bool, true, false, not, nat_le, ◌||◌, ◌==◌, if◌then◌else◌, Result, Ok, Err}
 use Rattle.std.specs.List.{list_all}
 use Rattle.mvm_insn.specs.Insns.{insn}
-use Rattle.mvm_insn.specs.Rows.{SwitchParts}
 use Rattle.mvm_insn.specs.Shapes.{between}
 use Rattle.mvm_insn.specs.declared.opcodes.TheConstants as jvm
 use Rattle.mvm_insn.specs.declared.fault.InsnFault.{InsnFault}

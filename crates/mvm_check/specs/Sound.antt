@@ -1,9 +1,11 @@
 -- What holds of a class file in whose code no fault is found (JVM Specification 4.9.1, and 4.9.2 but for the types of values), in the
 -- words that a machine needs which runs it.
-use Rattle.std.specs.Prelude.{◌≡◌, ◌<◌, ◌≤◌, ◌⊎◌, ℕ, ℤ, pos, negsuc, List, length, Result, Ok, IsTrue, IfSome}
+use Rattle.std.specs.Prelude.{◌≡◌, ◌<◌, ◌≤◌, ◌⊎◌, ℕ, ℤ, pos, negsuc, List, length, Ok, IsTrue, IfSome}
 use Rattle.std.specs.List.{All}
 use Rattle.mvm_insn.specs.Insns.{insn}
 use Rattle.mvm_insn.specs.declared.insn.At.{At}
+use Rattle.mvm_insn.specs.declared.insn.Insn.{Insn}
+use Rattle.mvm_insn.specs.declared.insn.Insn.TheVariants.{Jump, Choice}
 use Rattle.mvm_layout.specs.declared.parts.Item.{Item}
 use Rattle.mvm_layout.specs.declared.parts.Row.{Row}
 use Rattle.mvm_layout.specs.declared.parts.Code.{Code}
@@ -13,17 +15,22 @@ use Rattle.mvm_layout.specs.Pool.{entry, is_class}
 use Rattle.mvm_check.specs.Starts.{IsStart}
 use Rattle.mvm_check.specs.Operands.{has_operands, parameter_slots}
 use Rattle.mvm_check.specs.Locals.{locals_of, parameter_locals}
-use Rattle.mvm_check.specs.Instructions.{targets_of, is_last}
+use Rattle.mvm_check.specs.Instructions.{is_last}
 
 -- an instruction begins at a target
 abbrev pub StartsAt : List ℕ → ℤ → Type 0
 StartsAt code (pos place) = IsStart code place
 StartsAt code (negsuc n) = ⊥
 
+-- so it does at each place to which a branch or a switch leads
+abbrev pub LandsOnStarts : List ℕ → Insn → Type 0
+LandsOnStarts code (Jump op target) = StartsAt code target
+LandsOnStarts code (Choice op choice) = StartsAt code choice.otherwise × All (λ row. StartsAt code row.target) choice.rows
+LandsOnStarts code _ = Unit {0}
+
 -- an instruction, and the place behind it
 pub record SoundInsn (pool : List Item) (code : Code) (x : At) : Type 0 where
-  -- an instruction begins at each place to which a branch or a switch leads
-  pub targets : All (StartsAt code.bytes) (targets_of x.insn)
+  pub targets : LandsOnStarts code.bytes x.insn
   -- its operands are of the kinds that its opcode wants
   pub operands : IsTrue (has_operands pool x.insn)
   -- its local variables are there, of a long both

@@ -73,7 +73,11 @@ fn locals_at(parameters: u128, pc: u32, insn: &Insn) -> u128
     ensures { result ≡ locals_at parameters pc insn.now }
 {
     let locals = u128::from(locals_of(insn));
-    if pc == 0 { parameters.max(locals) } else { locals }
+    if pc == 0 {
+        parameters.max(locals)
+    } else {
+        locals
+    }
 }
 
 fn has_locals(parameters: u128, code: &Code, pc: u32, insn: &Insn) -> bool

@@ -4,8 +4,8 @@ ghost use Rattle.std.specs.Str.{bytes_eq};
 ghost use Rattle.mvm_layout.specs.Pool.{entry};
 ghost use Rattle.mvm_check.specs.Operands.{parameter_slots, method_desc, is_invocable, has_dimensions, names_dimensions, constant_operand, method_operand, class_operand, pool_operand, is_count, interface_operand, is_item_kind, multi_operand, has_operands};
 
-use crate::constants::Constants;
 use crate::array_types::{T_BOOLEAN, T_BYTE, T_CHAR, T_LONG};
+use crate::constants::Constants;
 use crate::letters::{LEFT_BRACKET, LESS_THAN};
 use crate::methods::{method_desc, method_name};
 use mvm_base::{List, Name};
