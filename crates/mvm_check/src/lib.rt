@@ -1,23 +1,27 @@
-//! The static constraints on the code of a class file (JVM Specification 4.9.1, and 4.9.2 but for the types of values).
+//! Files: the static constraints on the code of a class file (JVM Specification 4.9.1, and 4.9.2 but for the types of values).
 //!
-//! To the layers above it promises: [`check`] answers exactly what `check_of` of `specs/Check.antt` says of a class file:
-//! `Ok` where each method's code is instructions, one behind the other, that keep the rules, with an exception table that
-//! does; else the first fault. So at each place that `starts` has, `insn_at` of `mvm_insn` reads an instruction; the targets
-//! of each, and the handlers, are such places; what an operand names in the constant pool is of the kind that its opcode
-//! wants; local variables lie within `max_locals`; and no instruction but a goto, a switch, a return or a throw ends the code.
+//! To the layers above it promises: where [`check`] answers `Ok`, the class file is sound, as `IsSound` of `specs/Sound.antt`
+//! says. At each place at which an instruction begins `insn_at` of `mvm_insn` reads one; the places to which it leads, the
+//! handlers, and the place behind it are such places, unless nothing goes on behind it; what an operand names in the constant
+//! pool is of the kind that its opcode wants; and local variables lie within `max_locals`. Otherwise [`check`] answers the
+//! first fault, exactly as `check_of` of `specs/Check.antt` says. [`check_law`] has the laws that tie these definitions.
 #![tactic(auto)]
 
+mod array_types;
 mod checking;
 mod constants;
 mod fault;
 mod instruction;
+mod laws;
+mod letters;
 mod locals;
+mod methods;
 mod operands;
-mod pool;
 mod starts;
 
 pub use checking::check;
 pub use fault::{CheckFault, CheckKind};
+pub use laws::check_law;
 
 #[cfg(test)]
 mod tests;
