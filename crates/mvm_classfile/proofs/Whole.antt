@@ -237,7 +237,7 @@ header_again info at fields methods e =
 pub record RulesKept (info : ClassInfo) : Type 0 where
   pub header : header info ≡ kept
   pub fields : each_after [] (field_rule info.pool (is_interface info.flags)) info.fields ≡ kept
-  pub methods : each_after [] (method_rule info.pool (is_interface info.flags)) info.methods ≡ kept
+  pub methods : each_after [] (method_rule info.pool info.major (is_interface info.flags)) info.methods ≡ kept
 
 pub rules_kept : (info : ClassInfo) → rules info ≡ kept → RulesKept info
 unfolding rules
@@ -247,7 +247,7 @@ rules_kept info e =
     let c = both _ _ tt b.0 in
     record { header = c.0; fields = c.1; methods = b.1 }
 
-rules_again : (info : ClassInfo) (at : ℕ) (fields methods : List MemberInfo) → header info ≡ kept → each_after [] (field_rule info.pool (is_interface info.flags)) fields ≡ kept → each_after [] (method_rule info.pool (is_interface info.flags)) methods ≡ kept
+rules_again : (info : ClassInfo) (at : ℕ) (fields methods : List MemberInfo) → header info ≡ kept → each_after [] (field_rule info.pool (is_interface info.flags)) fields ≡ kept → each_after [] (method_rule info.pool info.major (is_interface info.flags)) methods ≡ kept
     → rules (moved info at fields methods) ≡ kept
 unfolding rules moved
 rules_again info at fields methods h f m = both_again _ _ (both_again _ _ (both_again _ _ (header_again info at fields methods h) f) m) refl
@@ -303,7 +303,7 @@ info_again info fits link rule =
     let fs = map (field_part info.pool) info.fields in
     let ms = map (method_part info.pool) info.methods in
     let f = fields_again info.pool names (is_interface info.flags) (serves_constant info.pool) [] [] (fields_at info + 2) info.fields fits.fields rule.fields refl in
-    let m = methods_again info.pool names (is_interface info.flags) (serves_code info.pool) [] [] ((fields_at info + length (members_text info fs)) + 2) info.methods fits.methods rule.methods refl in
+    let m = methods_again info.pool names info.major (is_interface info.flags) (serves_code info.pool) [] [] ((fields_at info + length (members_text info fs)) + 2) info.methods fits.methods rule.methods refl in
     let fl : length fs < 256 ^ 2 = rw length-map fits.field_count in
     let ml : length ms < 256 ^ 2 = rw length-map fits.method_count in
     record {

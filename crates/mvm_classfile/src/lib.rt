@@ -18,7 +18,7 @@ mod write;
 pub use class_file::ClassFile;
 pub use laws::reading_law;
 pub use mvm_layout::{ClassFault, Code, Item, Member, Parts, Row};
-pub use read::read_class;
+pub use read::{read_class, read_uncounted};
 pub use write::write_class;
 
 #[cfg(test)]

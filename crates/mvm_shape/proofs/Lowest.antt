@@ -1,12 +1,11 @@
 -- The fault that is told is the lowest of those that there are.
-use Rattle.std.proofs.Common.{◌≡◌, ℕ, zero, suc, ◌+◌, ◌*◌, ◌<◌, ◌≤◌, Bool, true, false, cond, List, [], ◌∷◌, ◌++◌, length, Option, Some, None, Result, Ok, Err, refl, sym, ap, subst, ◌∙◌, arith, inl, inr, ◌⊎◌}
-use Rattle.std.specs.Prelude.{codes, ◌&&◌, ◌||◌, not}
+use Rattle.std.proofs.Common.{◌≡◌, ℕ, ◌+◌, ◌*◌, ◌<◌, ◌≤◌, Bool, true, false, cond, List, [], ◌∷◌, ◌++◌, length, Option, Some, None, Result, Ok, Err, refl, sym, subst, ◌∙◌, arith, inl, inr, ◌⊎◌}
+use Rattle.std.specs.Prelude.{codes}
 use Rattle.mvm_base.specs.Descriptor.{field_of, method_of}
 use Rattle.mvm_base.specs.declared.descriptor.DescFault.{DescFault}
 use Rattle.mvm_base.specs.declared.descriptor.DescFault.TheVariants as desc_fault
 use Rattle.mvm_layout.specs.Infos.{AttributeParts}
 use Rattle.mvm_layout.specs.Ascending.{AttributesAscend, MembersAscend, PlacesAscend}
-use Rattle.mvm_layout.specs.Format.{Format}
 use Rattle.mvm_layout.specs.Layout.{layout, code_in}
 use Rattle.mvm_layout.specs.declared.fault.ClassFault.{ClassFault}
 use Rattle.mvm_layout.specs.declared.fault.ClassFault.TheVariants.{Shape, Unsupported}
@@ -17,8 +16,7 @@ use Rattle.mvm_layout.specs.declared.parts.Item.{Item}
 use Rattle.mvm_layout.proofs.Ascending.{places_ascend, code_ascends}
 use Rattle.mvm_layout.specs.Pool.{entry, is_class, is_utf8, text}
 use Rattle.mvm_base.specs.Rules.{expect, ◌and_then◌, each_from, each, each_after}
-use Rattle.mvm_layout.specs.Flags.{is_static}
-use Rattle.mvm_shape.specs.Members.{is_unqualified, is_method_name, holds, parsed, field_descriptor, method_descriptor, is_named, is_constant_value, field_attribute, named_attribute, code_attribute, method_attribute, is_repeated, is_sound_field, tested_field, field_rule, is_sound_method, is_built, tested_method, method_rule}
+use Rattle.mvm_shape.specs.Members.{is_unqualified, is_method_name, holds, parsed, field_descriptor, method_descriptor, is_named, field_attribute, named_attribute, code_attribute, method_attribute, is_repeated, is_sound_field, tested_field, field_rule, is_sound_method, keeps_interface_flags, keeps_interface_version, tested_method, method_rule}
 use Rattle.mvm_layout.specs.Flags.{is_interface}
 use Rattle.mvm_shape.specs.Shape.{has_superclass, are_interfaces, header, rules}
 use Rattle.mvm_shape.specs.Lowest.{rank, any, any_from, any_after, Fails, HeaderFails, FieldFails, CodeFails, ContentFails, MethodAttributeFails, MethodFails, IsWrong}
@@ -79,12 +77,15 @@ joined (Ok done) other A B low middle high p q l h = record {
     lowest_of : (f g : ClassFault) → other ≡ Err f → A g ⊎ B g → rank f ≤ rank g
     lowest_of f g e (inl a) = absurd (p.none g refl a)
     lowest_of f g e (inr b) = q.lowest f g e b
+
     none_of : (f : ClassFault) → other ≡ Ok tt → A f ⊎ B f → ⊥
     none_of f e (inl a) = p.none f refl a
     none_of f e (inr b) = q.none f e b
+
     above_of : (f : ClassFault) → A f ⊎ B f → low ≤ rank f
     above_of f (inl a) = p.above f a
     above_of f (inr b) = let k = q.above f b in omega (arith, k, l)
+
     below_of : (f : ClassFault) → A f ⊎ B f → rank f < high
     below_of f (inl a) = let k = p.below f a in omega (arith, k, h)
     below_of f (inr b) = q.below f b
@@ -99,9 +100,11 @@ joined (Err fault) other A B low middle high p q l h = record {
     lowest_of : (f g : ClassFault) → failed fault ≡ Err f → A g ⊎ B g → rank f ≤ rank g
     lowest_of f g e (inl a) = p.lowest f g e a
     lowest_of f g e (inr b) = let k = p.below f (p.told f e) in let m = q.above g b in omega (arith, k, m)
+
     above_of : (f : ClassFault) → A f ⊎ B f → low ≤ rank f
     above_of f (inl a) = p.above f a
     above_of f (inr b) = let k = q.above f b in omega (arith, k, l)
+
     below_of : (f : ClassFault) → A f ⊎ B f → rank f < high
     below_of f (inl a) = let k = p.below f a in omega (arith, k, h)
     below_of f (inr b) = q.below f b
@@ -190,12 +193,15 @@ at_one_place (Ok done) other A B low high p q h = record {
     lowest_of : (f g : ClassFault) → other ≡ Err f → A g ⊎ B g → rank f ≤ rank g
     lowest_of f g e (inl a) = absurd (p.none g refl a)
     lowest_of f g e (inr b) = q.lowest f g e b
+
     none_of : (f : ClassFault) → other ≡ Ok tt → A f ⊎ B f → ⊥
     none_of f e (inl a) = p.none f refl a
     none_of f e (inr b) = q.none f e b
+
     above_of : (f : ClassFault) → A f ⊎ B f → low ≤ rank f
     above_of f (inl a) = p.above f a
     above_of f (inr b) = q.above f b
+
     below_of : (f : ClassFault) → A f ⊎ B f → rank f < high
     below_of f (inl a) = let k = p.below f a in omega (arith, k, h)
     below_of f (inr b) = q.below f b
@@ -210,9 +216,11 @@ at_one_place (Err fault) other A B low high p q h = record {
     lowest_of : (f g : ClassFault) → failed fault ≡ Err f → A g ⊎ B g → rank f ≤ rank g
     lowest_of f g e (inl a) = p.lowest f g e a
     lowest_of f g e (inr b) = let k = p.below f (p.told f e) in let m = q.above g b in omega (arith, k, m)
+
     above_of : (f : ClassFault) → A f ⊎ B f → low ≤ rank f
     above_of f (inl a) = p.above f a
     above_of f (inr b) = q.above f b
+
     below_of : (f : ClassFault) → A f ⊎ B f → rank f < high
     below_of f (inl a) = let k = p.below f a in omega (arith, k, h)
     below_of f (inr b) = q.below f b
@@ -222,19 +230,20 @@ unfolding method_attribute
 attribute_lowest pool a =
     at_one_place _ _ _ _ (2 * a.at) (2 * (a.at + 6 + length a.content)) (named pool a) (behind_name (is_named pool (codes "Code") a) pool a) (omega arith)
 
-method_lowest : (pool : List Item) (is_interface : Bool) (before : List MemberInfo) (m : MemberInfo) (next : ℕ) → AttributesAscend (m.at + 8) m.attributes next
-    → Part (method_rule pool is_interface before m) (MethodFails pool is_interface before m) (2 * m.at) (2 * next)
+method_lowest : (pool : List Item) (major : ℕ) (is_interface : Bool) (before : List MemberInfo) (m : MemberInfo) (next : ℕ) → AttributesAscend (m.at + 8) m.attributes next
+    → Part (method_rule pool major is_interface before m) (MethodFails pool major is_interface before m) (2 * m.at) (2 * next)
 unfolding method_rule tested_method
-method_lowest pool is_interface before m next a =
+method_lowest pool major is_interface before m next a =
     let end = attributes_end (m.at + 8) m.attributes next a in
     let sound = expected (is_sound_method pool (is_repeated pool before m) m) (Shape m.at) (2 * m.at) (2 * m.at + 1) (omega arith) (omega arith) in
-    let built = expected (is_built pool is_interface m) (Unsupported m.at) (2 * m.at + 1) (2 * m.at + 4) (omega arith) (omega arith) in
+    let flags = expected (keeps_interface_flags pool major is_interface m) (Shape m.at) (2 * m.at) (2 * m.at + 1) (omega arith) (omega arith) in
+    let version = expected (keeps_interface_version pool major is_interface m) (Unsupported m.at) (2 * m.at + 1) (2 * m.at + 4) (omega arith) (omega arith) in
     let name = expected (holds is_method_name (text pool m.name)) (Shape (m.at + 2)) (2 * m.at + 4) (2 * (m.at + 4)) (omega arith) (omega arith) in
     let desc = wider _ _ (2 * (m.at + 4)) (2 * (m.at + 4) + 2) (2 * (m.at + 4)) (2 * (m.at + 8)) (method_desc (m.at + 4) m.flags (text pool m.desc)) (omega arith) (omega arith) in
     let more = each_attribute (method_attribute pool) (MethodAttributeFails pool) (attribute_lowest pool) m.attributes (m.at + 8) next a in
     joined _ _ _ _ (2 * m.at) (2 * (m.at + 8)) (2 * next)
     (joined _ _ _ _ (2 * m.at) (2 * (m.at + 4)) (2 * (m.at + 8))
-    (joined _ _ _ _ (2 * m.at) (2 * m.at + 4) (2 * (m.at + 4)) (joined _ _ _ _ (2 * m.at) (2 * m.at + 1) (2 * m.at + 4) sound built (omega arith) (omega arith)) name (omega arith) (omega arith)) desc (omega arith) (omega arith))
+    (joined _ _ _ _ (2 * m.at) (2 * m.at + 4) (2 * (m.at + 4)) (joined _ _ _ _ (2 * m.at) (2 * m.at + 1) (2 * m.at + 4) (at_one_place _ _ _ _ (2 * m.at) (2 * m.at + 1) sound flags (omega arith)) version (omega arith) (omega arith)) name (omega arith) (omega arith)) desc (omega arith) (omega arith))
     more (omega arith) (omega (arith, end))
 
 members_end : (from : ℕ) (xs : List MemberInfo) (to : ℕ) → MembersAscend from xs to → from ≤ to
@@ -286,7 +295,7 @@ rules_lowest info a =
     (joined _ _ _ _ (2 * (info.at + 2)) (2 * first) (2 * a.methods_from) (header_lowest info)
     (each_member (field_rule info.pool (is_interface info.flags)) (FieldFails info.pool (is_interface info.flags)) (field_lowest info.pool (is_interface info.flags)) [] info.fields first a.methods_from a.fields)
     (omega arith) (omega (arith, fields)))
-    (each_member (method_rule info.pool (is_interface info.flags)) (MethodFails info.pool (is_interface info.flags)) (method_lowest info.pool (is_interface info.flags)) [] info.methods a.methods_from a.attributes_from a.methods)
+    (each_member (method_rule info.pool info.major (is_interface info.flags)) (MethodFails info.pool info.major (is_interface info.flags)) (method_lowest info.pool info.major (is_interface info.flags)) [] info.methods a.methods_from a.attributes_from a.methods)
     (omega (arith, fields)) (omega (arith, methods)))
     (each_attribute (named_attribute info.pool) (λ x. Fails (named_attribute info.pool x)) (named_within info.pool) info.attributes a.attributes_from a.to a.attributes)
     (omega (arith, fields, methods)) (omega (arith, end))

@@ -1,5 +1,5 @@
 -- What is wrong with a class file behind its constant pool, in no order, and which of it is told: the lowest place, and there Shape first.
-use Rattle.std.specs.Prelude.{◌≡◌, ℕ, ◌+◌, ◌*◌, ◌⊎◌, List, [], ◌∷◌, ◌++◌, Bool, true, false, Option, Some, None, Result, Ok, Err, codes}
+use Rattle.std.specs.Prelude.{◌≡◌, ℕ, ◌+◌, ◌*◌, ◌⊎◌, List, [], ◌∷◌, ◌++◌, Bool, true, false, Option, Some, None, Result, Err, codes}
 use Rattle.mvm_layout.specs.Infos.{AttributeParts}
 use Rattle.mvm_layout.specs.Layout.{code_in}
 use Rattle.mvm_layout.specs.declared.fault.ClassFault.{ClassFault}
@@ -10,7 +10,7 @@ use Rattle.mvm_layout.specs.declared.info.CodeInfo.{CodeInfo}
 use Rattle.mvm_layout.specs.declared.parts.Item.{Item}
 use Rattle.mvm_layout.specs.Pool.{entry, is_class, text}
 use Rattle.mvm_base.specs.Rules.{expect}
-use Rattle.mvm_shape.specs.Members.{is_unqualified, is_method_name, holds, field_descriptor, method_descriptor, is_named, field_attribute, named_attribute, is_repeated, is_sound_field, is_sound_method, is_built}
+use Rattle.mvm_shape.specs.Members.{is_unqualified, is_method_name, holds, field_descriptor, method_descriptor, is_named, field_attribute, named_attribute, is_repeated, is_sound_field, is_sound_method, keeps_interface_flags, keeps_interface_version}
 use Rattle.mvm_layout.specs.Flags.{is_interface}
 use Rattle.mvm_shape.specs.Shape.{has_superclass}
 
@@ -64,10 +64,11 @@ ContentFails false pool a fault = ⊥
 abbrev pub MethodAttributeFails : List Item → AttributeParts → ClassFault → Type 0
 MethodAttributeFails pool a fault = Fails (named_attribute pool a) fault ⊎ ContentFails (is_named pool (codes "Code") a) pool a fault
 
-abbrev pub MethodFails : List Item → Bool → List MemberInfo → MemberInfo → ClassFault → Type 0
-MethodFails pool is_interface before m fault =
-    (((Fails (expect (is_sound_method pool (is_repeated pool before m) m) (Shape m.at)) fault
-    ⊎ Fails (expect (is_built pool is_interface m) (Unsupported m.at)) fault)
+abbrev pub MethodFails : List Item → ℕ → Bool → List MemberInfo → MemberInfo → ClassFault → Type 0
+MethodFails pool major is_interface before m fault =
+    ((((Fails (expect (is_sound_method pool (is_repeated pool before m) m) (Shape m.at)) fault
+    ⊎ Fails (expect (keeps_interface_flags pool major is_interface m) (Shape m.at)) fault)
+    ⊎ Fails (expect (keeps_interface_version pool major is_interface m) (Unsupported m.at)) fault)
     ⊎ Fails (expect (holds is_method_name (text pool m.name)) (Shape (m.at + 2))) fault)
     ⊎ Fails (method_descriptor (m.at + 4) m.flags (text pool m.desc)) fault)
     ⊎ any (λ a. MethodAttributeFails pool a fault) m.attributes
@@ -77,5 +78,5 @@ abbrev pub IsWrong : ClassInfo → ClassFault → Type 0
 IsWrong info fault =
     ((HeaderFails info fault
     ⊎ any_after [] (λ before m. FieldFails info.pool (is_interface info.flags) before m fault) info.fields)
-    ⊎ any_after [] (λ before m. MethodFails info.pool (is_interface info.flags) before m fault) info.methods)
+    ⊎ any_after [] (λ before m. MethodFails info.pool info.major (is_interface info.flags) before m fault) info.methods)
     ⊎ any (λ a. Fails (named_attribute info.pool a) fault) info.attributes

@@ -19,9 +19,11 @@ use Rattle.mvm_layout.specs.declared.parts.Code.{Code}
 use Rattle.mvm_layout.specs.declared.parts.Member.{Member}
 use Rattle.mvm_layout.specs.declared.info.MemberInfo.{MemberInfo}
 use Rattle.mvm_layout.specs.declared.info.CodeInfo.{CodeInfo}
-use Rattle.mvm_layout.specs.Flags.{is_static, has_no_code}
+use Rattle.mvm_layout.specs.Flags.{has_flag, is_static, has_no_code}
+use Rattle.mvm_layout.specs.declared.flags.TheConstants as flag
 use Rattle.mvm_layout.specs.Pool.{entry, is_utf8, text, is_text}
 use Rattle.mvm_base.specs.Rules.{expect, ◌and_then◌, each}
+use Rattle.mvm_shape.specs.declared.members.TheConstants.{INTERFACE_CODE_MAJOR}
 
 -- ---- names (4.2.2)
 
@@ -147,20 +149,45 @@ is_sound_method pool repeated member =
     not repeated
     && length (codes_among pool member.attributes) == (if has_no_code member.flags then 0 else 1)
 
--- the code of an interface is that of its class initialisation method, at this stage
-abbrev pub is_built : List Item → Bool → MemberInfo → Bool
-is_built pool is_interface member = not is_interface || has_no_code member.flags || is_text (codes "<clinit>") (text pool member.name)
+-- a method of an interface with code, but for the interface initialization method, which is known by its name (2.9, 4.7.3)
+abbrev pub is_interface_code : List Item → Bool → MemberInfo → Bool
+is_interface_code pool is_interface member = is_interface && not (has_no_code member.flags) && not (is_text (codes "<clinit>") (text pool member.name))
 
-unfoldable pub tested_method : List Item → Bool → Bool → MemberInfo → Result (Unit {0}) ClassFault
-tested_method pool is_interface repeated member =
+abbrev pub has_exactly_one : ℕ → ℕ → ℕ → Bool
+has_exactly_one one other flags = (has_flag one flags || has_flag other flags) && not (has_flag one flags && has_flag other flags)
+
+-- public or private, and neither protected nor final nor synchronized (4.6)
+abbrev pub has_interface_code_flags : ℕ → Bool
+has_interface_code_flags flags =
+    has_exactly_one flag.PUBLIC flag.PRIVATE flags
+    && not (has_flag flag.PROTECTED flags)
+    && not (has_flag flag.FINAL flags)
+    && not (has_flag flag.SYNCHRONIZED flags)
+
+-- a file of this version may have code in its interface's methods (4.6)
+abbrev pub may_have_interface_code : ℕ → Bool
+may_have_interface_code major = nat_le INTERFACE_CODE_MAJOR major
+
+-- code of an interface has the flags for it, where the version knows it (4.6)
+abbrev pub keeps_interface_flags : List Item → ℕ → Bool → MemberInfo → Bool
+keeps_interface_flags pool major is_interface member =
+    not (is_interface_code pool is_interface member && may_have_interface_code major) || has_interface_code_flags member.flags
+
+-- there is no code of an interface, or the version knows it
+abbrev pub keeps_interface_version : List Item → ℕ → Bool → MemberInfo → Bool
+keeps_interface_version pool major is_interface member = not (is_interface_code pool is_interface member) || may_have_interface_code major
+
+unfoldable pub tested_method : List Item → ℕ → Bool → Bool → MemberInfo → Result (Unit {0}) ClassFault
+tested_method pool major is_interface repeated member =
     expect (is_sound_method pool repeated member) (Shape member.at)
-    and_then expect (is_built pool is_interface member) (Unsupported member.at)
+    and_then expect (keeps_interface_flags pool major is_interface member) (Shape member.at)
+    and_then expect (keeps_interface_version pool major is_interface member) (Unsupported member.at)
     and_then expect (holds is_method_name (text pool member.name)) (Shape (member.at + 2))
     and_then method_descriptor (member.at + 4) member.flags (text pool member.desc)
     and_then each (method_attribute pool) member.attributes
 
-unfoldable pub method_rule : List Item → Bool → List MemberInfo → MemberInfo → Result (Unit {0}) ClassFault
-method_rule pool is_interface before member = tested_method pool is_interface (is_repeated pool before member) member
+unfoldable pub method_rule : List Item → ℕ → Bool → List MemberInfo → MemberInfo → Result (Unit {0}) ClassFault
+method_rule pool major is_interface before member = tested_method pool major is_interface (is_repeated pool before member) member
 
 -- ---- what is kept of a member
 

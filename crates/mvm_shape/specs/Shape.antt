@@ -40,7 +40,7 @@ unfoldable pub rules : ClassInfo → Result (Unit {0}) ClassFault
 rules info =
     header info
     and_then each_after [] (field_rule info.pool (is_interface info.flags)) info.fields
-    and_then each_after [] (method_rule info.pool (is_interface info.flags)) info.methods
+    and_then each_after [] (method_rule info.pool info.major (is_interface info.flags)) info.methods
     and_then each (named_attribute info.pool) info.attributes
 
 -- what is kept of a class file

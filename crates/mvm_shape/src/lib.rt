@@ -22,8 +22,6 @@ ghost use Rattle.mvm_base.specs.Answers.{AnswersUnless};
 ghost use Rattle.mvm_layout.specs.Bounds.{IsWithinFile};
 ghost use Rattle.mvm_shape.specs.Shape.{shaped, rules, parts_of};
 
-pub use laws::shape_law;
-
 use crate::attributes::test_names;
 use crate::facts::all_facts;
 use crate::header::test_header;
@@ -31,6 +29,7 @@ use crate::kept::{field_parts, method_parts};
 use crate::links::test_links;
 use crate::lists::{test_fields, test_methods};
 use crate::numbers::numbers;
+pub use laws::shape_law;
 use mvm_base::OutOfMemory;
 use mvm_layout::{ClassFault, ClassInfo, Parts};
 use std::alloc::Global;

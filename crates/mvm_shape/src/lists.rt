@@ -49,23 +49,13 @@ pub(crate) fn test_methods(
     requires rows { rows.now ≡ all_facts info.now.pool }
     requires numbers { AreNumbers info.now.pool numbers.now }
     requires within { All StandsWithin info.now.methods }
-    ensures { AnswersUnless ClassFault.OutOfMemory result (each_after [] (method_rule info.now.pool (is_interface info.now.flags)) info.now.methods) }
+    ensures { AnswersUnless ClassFault.OutOfMemory result (each_after [] (method_rule info.now.pool info.now.major (is_interface info.now.flags)) info.now.methods) }
 {
-    let is_interface = is_interface(info.flags);
     let methods = info.methods.as_slice();
     let mut pairs = BTreeSet::new(alloc);
     for i in 0..methods.len() {
-        match is_repeated(&mut pairs, &info.pool, numbers, &methods[i]) {
-            Ok(repeated) => test_method(
-                alloc,
-                &info.pool,
-                rows,
-                is_interface,
-                repeated,
-                &methods[i],
-            )?,
-            Err(_) => return Err(ClassFault::OutOfMemory),
-        }
+        let repeated = is_repeated(&mut pairs, &info.pool, numbers, &methods[i])?;
+        test_method(alloc, info, rows, repeated, &methods[i])?;
     }
     Ok(())
 }

@@ -6,18 +6,23 @@ ghost use Rattle.mvm_layout.specs.Bounds.{StandsWithin};
 ghost use Rattle.mvm_layout.specs.declared.fault.ClassFault.TheVariants.{Unsupported};
 ghost use Rattle.mvm_layout.specs.Pool.{text};
 ghost use Rattle.mvm_base.specs.Rules.{expect};
-ghost use Rattle.mvm_layout.specs.Flags.{is_static, has_no_code};
-ghost use Rattle.mvm_shape.specs.Members.{is_unqualified, is_method_name, holds, field_descriptor, method_descriptor, is_sound_field, tested_field, is_sound_method, is_built, tested_method};
+ghost use Rattle.mvm_layout.specs.Flags.{is_static, is_interface, has_no_code};
+ghost use Rattle.mvm_shape.specs.Members.{is_unqualified, is_method_name, holds, field_descriptor, method_descriptor, is_sound_field, tested_field, is_sound_method, is_interface_code, has_interface_code_flags, may_have_interface_code, keeps_interface_flags, keeps_interface_version, tested_method};
 ghost use Rattle.mvm_shape.specs.Facts.{all_facts, facts_of, is_known_field, is_known_method, known_field, known_method, tested_as};
 
 use crate::attributes::{count_named, test_field_attributes, test_method_attributes};
 use crate::facts::{Descriptor, TextFacts, facts_at};
 use crate::header::shape_fault;
 use mvm_base::List;
-use mvm_layout::flags::{is_static, has_no_code};
+use mvm_layout::flags::{
+    FINAL, PRIVATE, PROTECTED, PUBLIC, SYNCHRONIZED, has_flag, has_no_code, is_interface, is_static,
+};
 use mvm_layout::pool::is_text;
-use mvm_layout::{ClassFault, Item, MemberInfo};
+use mvm_layout::{ClassFault, ClassInfo, Item, MemberInfo};
 use std::alloc::Global;
+
+/// The first major version of which an interface's methods may have code (JVM Specification 4.6).
+pub const INTERFACE_CODE_MAJOR: u16 = 52;
 
 #[tactic(auto, using(crate::proofs::Texts::field_name))]
 fn is_field_name(pool: &List<Item>, rows: &[Option<TextFacts>], index: u16) -> bool
@@ -168,30 +173,66 @@ fn is_sound_method(pool: &List<Item>, is_repeated: bool, member: &MemberInfo) ->
     !is_repeated && count_named(pool, b"Code", &member.attributes) == codes_wanted(member.flags)
 }
 
-fn is_built(pool: &List<Item>, is_interface: bool, member: &MemberInfo) -> bool
-    ensures { result ≡ is_built pool.now is_interface member.now }
+fn is_interface_code(info: &ClassInfo, member: &MemberInfo) -> bool
+    ensures { result ≡ is_interface_code info.now.pool (is_interface info.now.flags) member.now }
 {
-    !is_interface || has_no_code(member.flags) || is_text(pool, member.name, b"<clinit>")
+    is_interface(info.flags)
+        && !has_no_code(member.flags)
+        && !is_text(&info.pool, member.name, b"<clinit>")
+}
+
+fn has_interface_code_flags(flags: u16) -> bool
+    ensures { result ≡ has_interface_code_flags flags }
+{
+    let is_public = has_flag(PUBLIC, flags);
+    let is_private = has_flag(PRIVATE, flags);
+    (is_public || is_private)
+        && !(is_public && is_private)
+        && !has_flag(PROTECTED, flags)
+        && !has_flag(FINAL, flags)
+        && !has_flag(SYNCHRONIZED, flags)
+}
+
+fn may_have_interface_code(major: u16) -> bool
+    ensures { result ≡ may_have_interface_code major }
+{
+    INTERFACE_CODE_MAJOR <= major
+}
+
+fn keeps_interface_flags(info: &ClassInfo, member: &MemberInfo) -> bool
+    ensures { result ≡ keeps_interface_flags info.now.pool info.now.major (is_interface info.now.flags) member.now }
+{
+    !(is_interface_code(info, member) && may_have_interface_code(info.major))
+        || has_interface_code_flags(member.flags)
+}
+
+fn keeps_interface_version(info: &ClassInfo, member: &MemberInfo) -> bool
+    ensures { result ≡ keeps_interface_version info.now.pool info.now.major (is_interface info.now.flags) member.now }
+{
+    !is_interface_code(info, member) || may_have_interface_code(info.major)
 }
 
 /// Whether a method keeps the rules.
 #[tactic(auto, unfolding(crate::specs::Members::tested_method))]
 pub(crate) fn test_method(
     alloc: Global,
-    pool: &List<Item>,
+    info: &ClassInfo,
     rows: &[Option<TextFacts>],
-    is_interface: bool,
     is_repeated: bool,
     member: &MemberInfo,
 ) -> Result<(), ClassFault>
-    requires rows { rows.now ≡ all_facts pool.now }
+    requires rows { rows.now ≡ all_facts info.now.pool }
     requires within { StandsWithin member.now }
-    ensures { AnswersUnless ClassFault.OutOfMemory result (tested_method pool.now is_interface is_repeated member.now) }
+    ensures { AnswersUnless ClassFault.OutOfMemory result (tested_method info.now.pool info.now.major (is_interface info.now.flags) is_repeated member.now) }
 {
+    let pool = &info.pool;
     if !is_sound_method(pool, is_repeated, member) {
         return Err(ClassFault::Shape(member.at));
     }
-    if !is_built(pool, is_interface, member) {
+    if !keeps_interface_flags(info, member) {
+        return Err(ClassFault::Shape(member.at));
+    }
+    if !keeps_interface_version(info, member) {
         return Err(ClassFault::Unsupported(member.at));
     }
     if !is_method_name(pool, rows, member.name) {

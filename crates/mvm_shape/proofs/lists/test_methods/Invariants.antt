@@ -8,5 +8,5 @@ use Rattle.mvm_shape.proofs.lists.test_methods.Given as goal
 abbrev pub invariant-loop-i : goal.invariant-loop-i
 invariant-loop-i l = record {
   holds : Holds l.info.pool l.numbers (holds_pair l.pairs) (take l.i l.info.methods);
-  rest : each_after (take l.i l.info.methods) (method_rule l.info.pool (is_interface l.info.flags)) (drop l.i l.info.methods) ≡ each_after [] (method_rule l.info.pool (is_interface l.info.flags)) l.info.methods;
+  rest : each_after (take l.i l.info.methods) (method_rule l.info.pool l.info.major (is_interface l.info.flags)) (drop l.i l.info.methods) ≡ each_after [] (method_rule l.info.pool l.info.major (is_interface l.info.flags)) l.info.methods;
 }
