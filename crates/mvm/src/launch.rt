@@ -9,14 +9,12 @@ ghost use Rattle.mvm.specs.Launch.{reading, writing, AskForRun, IsClassFile, Run
 use crate::outcome::{Ended, Outcome, What};
 use crate::refusal::Refusal;
 use crate::report::report;
-use mvm_base::{List, OutOfMemory, Steps};
-use mvm_classfile::{ClassFault, read_class};
+use mvm_base::{List, OutOfMemory};
+use mvm_classfile::{ClassFault, read_uncounted};
 use mvm_first_form::{FirstForm, read_first_form};
 use mvm_interp::run;
 use mvm_outside::{Gate, MOST_FILE_BYTES, ReadRefusal, Sink, Source, Store, read_all, write_all};
 use std::alloc::Global;
-use std::marker::Brand;
-use std::sync::ledger::{Blank, Ledger};
 use std::thread::Threads;
 
 /// The one word that is a command at this stage.
@@ -29,28 +27,16 @@ fn asks_for_run(words: &[String]) -> bool
     }
 }
 
-fn check_counted<L: Ledger>(alloc: Global, bytes: &[u8], blank: Blank) -> Result<(), ClassFault>
-    requires name { blank.name ≡ L.name }
-    requires parts { blank.parts ≡ L.parts }
-    requires share { 0 < L.parts }
-    requires few { length bytes.now < 2 ^ 32 }
-    ensures ok { OnOk result (IsClassFile bytes.now) }
-    ensures err { IfErr result (λ fault. fault ≢ class_fault.OutOfMemory → IsFaulty bytes.now fault) }
-{
-    let mut steps: Steps<L> = Steps::new(blank);
-    match read_class(alloc, bytes, &mut steps) {
-        Ok(_) => Ok(()),
-        Err(fault) => Err(fault),
-    }
-}
-
-/// Reads a class file through, at steps that nobody counts.
+/// Reads a class file through.
 fn check(alloc: Global, bytes: &[u8]) -> Result<(), ClassFault>
     requires { length bytes.now < 2 ^ 32 }
     ensures ok { OnOk result (IsClassFile bytes.now) }
     ensures err { IfErr result (λ fault. fault ≢ class_fault.OutOfMemory → IsFaulty bytes.now fault) }
 {
-    check_counted::<Brand>(alloc, bytes, Blank::new(1))
+    match read_uncounted(alloc, bytes) {
+        Ok(_) => Ok(()),
+        Err(fault) => Err(fault),
+    }
 }
 
 /// The class of the bytes, if they are a class file that the machine of this stage can run.
