@@ -10,7 +10,7 @@ use Rattle.mvm_base.specs.Rules.{expect, ◌and_then◌, each, each_from}
 use Rattle.mvm_check.specs.Rules.{told}
 use Rattle.mvm_check.specs.Starts.{starts_of, is_start}
 use Rattle.mvm_check.specs.Operands.{parameter_slots}
-use Rattle.mvm_check.specs.Locals.{has_room}
+use Rattle.mvm_check.specs.Locals.{parameter_locals}
 use Rattle.mvm_check.specs.Instructions.{stands, keeps}
 use Rattle.mvm_check.specs.declared.fault.CheckFault.{CheckFault}
 use Rattle.mvm_check.specs.declared.fault.CheckKind.TheVariants.{BadHandler}
@@ -38,21 +38,21 @@ row_rule pool method code number row = told method number (expect (is_row pool c
 unfoldable pub stands_rule : ℕ → List ℕ → ℕ → Result (Unit {0}) CheckFault
 stands_rule method code pc = told method pc (stands code pc)
 
-unfoldable pub keeps_rule : List Item → ℕ → Bool → Code → ℕ → Result (Unit {0}) CheckFault
-keeps_rule pool method room code pc = told method pc (keeps pool room code pc)
+unfoldable pub keeps_rule : List Item → ℕ → ℕ → Code → ℕ → Result (Unit {0}) CheckFault
+keeps_rule pool method parameters code pc = told method pc (keeps pool parameters code pc)
 
 -- The code is instructions, one behind the other; each keeps the rules; and so do the rows of the exception table. The code of a
 -- class file is never empty; one that is empty has no instruction, and so no fault of one.
-unfoldable pub code_rule : List Item → ℕ → Bool → Code → Result (Unit {0}) CheckFault
-code_rule pool method room code =
+unfoldable pub code_rule : List Item → ℕ → ℕ → Code → Result (Unit {0}) CheckFault
+code_rule pool method parameters code =
     each (stands_rule method code.bytes) (starts_of code.bytes)
-    and_then each (keeps_rule pool method room code) (starts_of code.bytes)
+    and_then each (keeps_rule pool method parameters code) (starts_of code.bytes)
     and_then each_from 0 (row_rule pool method code) code.rows
 
 abbrev pub code_rule_if : List Item → ℕ → Member → Option Code → Result (Unit {0}) CheckFault
 code_rule_if pool number method None = Ok tt
 code_rule_if pool number method (Some code) =
-    code_rule pool number (has_room method.flags code.max_locals (parameter_slots pool method.desc)) code
+    code_rule pool number (parameter_locals method.flags (parameter_slots pool method.desc)) code
 
 unfoldable pub method_rule : List Item → ℕ → Member → Result (Unit {0}) CheckFault
 method_rule pool number method = code_rule_if pool number method method.code

@@ -4,3 +4,4 @@ pub mod Operands
 pub mod Locals
 pub mod Instructions
 pub mod Check
+pub mod Sound

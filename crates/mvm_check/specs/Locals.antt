@@ -2,8 +2,8 @@
 use Rattle.std.specs.Prelude.{ℕ, ◌+◌, ◌-◌, Bool, true, nat_le, ◌||◌, ◌==◌, if◌then◌else◌, Option, Some, None}
 use Rattle.mvm_insn.specs.Shapes.{between}
 use Rattle.mvm_insn.specs.declared.opcodes.TheConstants as jvm
-use Rattle.mvm_insn.specs.declared.parts.Insn.{Insn}
-use Rattle.mvm_insn.specs.declared.parts.Insn.TheVariants.{Plain, Local, Inc}
+use Rattle.mvm_insn.specs.declared.insn.Insn.{Insn}
+use Rattle.mvm_insn.specs.declared.insn.Insn.TheVariants.{Plain, Local, Inc}
 use Rattle.mvm_layout.specs.Flags.{is_static}
 
 -- by iload_0 to iload_3, lload_0 to lload_3, and so on, where a long takes the next one too; by any other, none
@@ -29,7 +29,8 @@ locals_of _ = 0
 abbrev pub slots_of_this : ℕ → ℕ
 slots_of_this flags = if is_static flags then 0 else 1
 
--- the parameters find room, `this` counted unless the method is static (4.3.3, 4.7.3); what is no descriptor has none
-unfoldable pub has_room : ℕ → ℕ → Option ℕ → Bool
-has_room flags max_locals (Some slots) = nat_le (slots + slots_of_this flags) max_locals
-has_room flags max_locals None = true
+-- The local variables that take the parameters, of so many slots, `this` counted unless the method is static (4.3.3, 4.7.3). What
+-- is no descriptor has none.
+abbrev pub parameter_locals : ℕ → Option ℕ → ℕ
+parameter_locals flags (Some slots) = slots + slots_of_this flags
+parameter_locals flags None = 0

@@ -1,63 +1,31 @@
 -- Entries of the constant pool as operands of instructions, and what else stands with them (JVM Specification 4.9.1).
 use Rattle.std.specs.Prelude.{ℕ, zero, suc, ◌+◌, List, [], ◌∷◌, Bool, true, false, not, ◌&&◌, ◌||◌, ◌==◌, if◌then◌else◌, Option, Some, None, Result, Ok, Err, codes}
-use Rattle.std.specs.Option.{option_and_then}
+use Rattle.std.specs.Option.{option_and_then, option_map}
 use Rattle.std.specs.Str.{bytes_eq}
 use Rattle.mvm_base.specs.Descriptor.{method_of, slots}
 use Rattle.mvm_base.specs.declared.descriptor.MethodShape.{MethodShape}
 use Rattle.mvm_base.specs.declared.descriptor.DescFault.{DescFault}
 use Rattle.mvm_layout.specs.declared.parts.Item.{Item}
-use Rattle.mvm_layout.specs.declared.parts.Item.TheVariants.{Utf8, Integer, Long, Class, Str, Fieldref, Methodref, InterfaceMethodref, NameAndType}
-use Rattle.mvm_layout.specs.Pool.{entry, is_class, text, class_name}
+use Rattle.mvm_layout.specs.declared.parts.Item.TheVariants.{Utf8}
+use Rattle.mvm_layout.specs.Pool.{entry, is_loadable, is_long, is_field, is_method, is_interface_method, is_class, text, class_name, member, name_and_type}
 use Rattle.mvm_insn.specs.Shapes.{between}
 use Rattle.mvm_insn.specs.declared.opcodes.TheConstants as jvm
-use Rattle.mvm_insn.specs.declared.parts.Insn.{Insn}
-use Rattle.mvm_insn.specs.declared.parts.Insn.TheVariants.{Pool, Interface, NewArray, Multi}
-
--- ---- kinds of entry (4.4)
-
-abbrev pub is_loadable : Option Item → Bool
-is_loadable (Some (Integer n)) = true
-is_loadable (Some (Str text)) = true
-is_loadable (Some (Class name)) = true
-is_loadable _ = false
-
-abbrev pub is_long : Option Item → Bool
-is_long (Some (Long n)) = true
-is_long _ = false
-
-abbrev pub is_field : Option Item → Bool
-is_field (Some (Fieldref class member)) = true
-is_field _ = false
-
-abbrev pub is_method : Option Item → Bool
-is_method (Some (Methodref class member)) = true
-is_method _ = false
-
-abbrev pub is_interface_method : Option Item → Bool
-is_interface_method (Some (InterfaceMethodref class member)) = true
-is_interface_method _ = false
+use Rattle.mvm_check.specs.declared.array_types.TheConstants as array
+use Rattle.mvm_check.specs.declared.letters.TheConstants as unit
+use Rattle.mvm_insn.specs.declared.insn.Insn.{Insn}
+use Rattle.mvm_insn.specs.declared.insn.Insn.TheVariants.{Pool, Interface, NewArray, Multi}
 
 -- ---- names and descriptors of methods (4.4.2, 4.4.6)
 
--- the index of the name and type of a method
-abbrev pub member_of : Option Item → ℕ
-member_of (Some (Methodref class member)) = member
-member_of (Some (InterfaceMethodref class member)) = member
-member_of _ = 0
-
-abbrev pub name_of : Option Item → ℕ
-name_of (Some (NameAndType name desc)) = name
-name_of _ = 0
-
-abbrev pub desc_of : Option Item → ℕ
-desc_of (Some (NameAndType name desc)) = desc
-desc_of _ = 0
+-- of a method by its index: the indices of its name, and of its descriptor
+abbrev pub name_and_type_of : List Item → ℕ → Option (ℕ × ℕ)
+name_and_type_of pool index = option_and_then (λ (class, at). name_and_type pool at) (member pool index)
 
 abbrev pub method_name : List Item → ℕ → Option (List ℕ)
-method_name pool index = text pool (name_of (entry pool (member_of (entry pool index))))
+method_name pool index = option_and_then (λ (name, desc). text pool name) (name_and_type_of pool index)
 
-abbrev pub method_desc : List Item → ℕ → ℕ
-method_desc pool index = desc_of (entry pool (member_of (entry pool index)))
+abbrev pub method_desc : List Item → ℕ → Option ℕ
+method_desc pool index = option_map (λ (name, desc). desc) (name_and_type_of pool index)
 
 abbrev pub slots_in : Result MethodShape DescFault → Option ℕ
 slots_in (Ok method) = Some (slots method.params)
@@ -74,7 +42,7 @@ parameter_slots pool desc = option_and_then slots_of_item (entry pool desc)
 
 -- a name that begins with < is `<init>`, where it is invoked as special
 abbrev pub is_invocable : Bool → Option (List ℕ) → Bool
-is_invocable special (Some (letter ∷ name)) = not (letter == 60) || (special && bytes_eq (letter ∷ name) (codes "<init>"))
+is_invocable special (Some (letter ∷ name)) = not (letter == unit.LESS_THAN) || (special && bytes_eq (letter ∷ name) (codes "<init>"))
 is_invocable special (Some []) = true
 is_invocable special None = false
 
@@ -84,7 +52,7 @@ is_invocable special None = false
 abbrev pub has_dimensions : ℕ → List ℕ → Bool
 has_dimensions zero name = true
 has_dimensions (suc n) [] = false
-has_dimensions (suc n) (letter ∷ name) = letter == 91 && has_dimensions n name
+has_dimensions (suc n) (letter ∷ name) = letter == unit.LEFT_BRACKET && has_dimensions n name
 
 -- there is a class of this index, and its name begins with so many [
 abbrev pub names_dimensions : ℕ → Option (List ℕ) → Bool
@@ -127,12 +95,12 @@ unfoldable pub interface_operand : List Item → ℕ → ℕ → ℕ → Bool
 interface_operand pool index count last =
     is_interface_method (entry pool index)
     && is_invocable false (method_name pool index)
-    && is_count count (parameter_slots pool (method_desc pool index))
+    && is_count count (option_and_then (parameter_slots pool) (method_desc pool index))
     && last == 0
 
 -- boolean, char, byte, short, int and long (6.5, newarray)
 abbrev pub is_item_kind : ℕ → Bool
-is_item_kind kind = between 4 5 kind || between 8 11 kind
+is_item_kind kind = between array.T_BOOLEAN array.T_CHAR kind || between array.T_BYTE array.T_LONG kind
 
 -- multianewarray
 unfoldable pub multi_operand : List Item → ℕ → ℕ → Bool

@@ -1,9 +1,18 @@
--- The places of a method's code at which an instruction begins (JVM Specification 4.9.1).
-use Rattle.std.specs.Prelude.{ℕ, zero, suc, ℤ, pos, negsuc, List, [], ◌∷◌, length, Bool, false, nat_lt, ◌==◌, if◌then◌else◌, Result, Ok, Err}
+-- The places of a method's code at which an instruction begins (JVM Specification 4.9.1): as a set, by the standard's own words, and
+-- as the list of these places from the first to the last, in whose order the faults are told.
+use Rattle.std.specs.Prelude.{◌≡◌, ◌<◌, ℕ, zero, suc, ℤ, pos, negsuc, List, [], ◌∷◌, length, Bool, false, nat_lt, ◌==◌, if◌then◌else◌, Result, Ok, Err}
 use Rattle.std.specs.List.{list_any}
 use Rattle.mvm_insn.specs.Insns.{insn}
 use Rattle.mvm_insn.specs.declared.fault.InsnFault.{InsnFault}
-use Rattle.mvm_insn.specs.declared.parts.At.{At}
+use Rattle.mvm_insn.specs.declared.insn.At.{At}
+
+-- The first opcode stands at place 0. The place of each next opcode is that of the one before it and its length together, unless the
+-- code ends there.
+pub data IsStart (code : List ℕ) : ℕ → Type 0 where
+  first : 0 < length code → IsStart code 0
+  next : (pc : ℕ) (x : At) → IsStart code pc → insn code pc ≡ Ok x → x.next < length code → IsStart code x.next
+
+-- ---- the list
 
 -- the place behind an instruction; behind a place where none stands, nothing is cut any more: this is the end
 abbrev pub behind : ℕ → Result At InsnFault → ℕ

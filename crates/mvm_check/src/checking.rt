@@ -1,20 +1,23 @@
-ghost use Rattle.std.specs.Prelude.{◌≡◌, ◌≤◌, length, IsTrue};
+ghost use Rattle.std.specs.Prelude.{◌≡◌, ◌≤◌, length, IsTrue, OnOk};
 ghost use Rattle.std.specs.List.{AllPass};
 ghost use Rattle.mvm_classfile.specs.Writing.{fits_code, has_few_bytes, is_countable};
 ghost use Rattle.mvm_layout.specs.Pool.{entry, is_class};
 ghost use Rattle.mvm_base.specs.Rules.{each, each_from};
-ghost use Rattle.mvm_check.specs.Rules.{told, Answers};
+ghost use Rattle.mvm_base.specs.Answers.{AnswersUnless};
+ghost use Rattle.mvm_check.specs.Rules.{told};
+ghost use Rattle.mvm_check.specs.declared.fault.CheckFault.TheVariants.{OutOfMemory};
 ghost use Rattle.mvm_check.specs.Starts.{starts_of};
+ghost use Rattle.mvm_check.specs.Sound.{IsSound};
 ghost use Rattle.mvm_check.specs.Check.{covers, is_row, row_rule, stands_rule, keeps_rule, code_rule, method_rule, check_of};
 
 use crate::constants::Constants;
 use crate::fault::{CheckFault, CheckKind};
 use crate::instruction::{keeps, stands};
-use crate::locals::has_room;
-use crate::pool::is_class;
+use crate::locals::parameter_locals;
 use crate::starts::Starts;
 use mvm_base::List;
 use mvm_classfile::ClassFile;
+use mvm_layout::pool::is_class;
 use mvm_layout::{Code, Item, Member, Parts, Row};
 use std::alloc::Global;
 
@@ -50,32 +53,32 @@ fn all_stand(method: u16, code: &[u8], starts: &Starts) -> Result<(), CheckFault
 fn keeps_rule(
     constants: &Constants,
     method: u16,
-    room: bool,
+    parameters: u128,
     code: &Code,
     starts: &Starts,
     pc: u32,
 ) -> Result<(), CheckFault>
     requires short { length code.now.bytes ≤ 65535 }
     requires starts { starts.now ≡ starts_of code.now.bytes }
-    ensures { result ≡ keeps_rule constants.now method room code.now pc }
+    ensures { result ≡ keeps_rule constants.now method parameters code.now pc }
 {
-    told(method, pc, keeps(constants, room, code, starts, pc))
+    told(method, pc, keeps(constants, parameters, code, starts, pc))
 }
 
 fn all_keep(
     constants: &Constants,
     method: u16,
-    room: bool,
+    parameters: u128,
     code: &Code,
     starts: &Starts,
 ) -> Result<(), CheckFault>
     requires short { length code.now.bytes ≤ 65535 }
     requires starts { starts.now ≡ starts_of code.now.bytes }
-    ensures { result ≡ each (keeps_rule constants.now method room code.now) starts.now }
+    ensures { result ≡ each (keeps_rule constants.now method parameters code.now) starts.now }
 {
     let places = starts.places();
     for i in 0..places.len() {
-        keeps_rule(constants, method, room, code, starts, places[i])?;
+        keeps_rule(constants, method, parameters, code, starts, places[i])?;
     }
     Ok(())
 }
@@ -136,17 +139,17 @@ fn code_rule(
     alloc: Global,
     constants: &Constants,
     method: u16,
-    room: bool,
+    parameters: u128,
     code: &Code,
 ) -> Result<(), CheckFault>
     requires short { length code.now.bytes ≤ 65535 }
     requires few { length code.now.rows ≤ 65535 }
-    ensures { Answers result (code_rule constants.now method room code.now) }
+    ensures { AnswersUnless OutOfMemory result (code_rule constants.now method parameters code.now) }
 {
     let bytes = code.bytes.as_slice();
     let starts = Starts::of(alloc, bytes)?;
     all_stand(method, bytes, &starts)?;
-    all_keep(constants, method, room, code, &starts)?;
+    all_keep(constants, method, parameters, code, &starts)?;
     all_rows(constants.pool(), method, code, &starts)
 }
 
@@ -159,15 +162,15 @@ fn method_rule(
 ) -> Result<(), CheckFault>
     requires rows { IsTrue (fits_code method.now.code) }
     requires bytes { IsTrue (has_few_bytes method.now.code) }
-    ensures { Answers result (method_rule constants.now number method.now) }
+    ensures { AnswersUnless OutOfMemory result (method_rule constants.now number method.now) }
 {
     let code = match &method.code {
         Some(code) => code,
         None => return Ok(()),
     };
     let slots = constants.parameter_slots(method.desc);
-    let room = has_room(method.flags, code.max_locals, slots);
-    code_rule(alloc, constants, number, room, code)
+    let parameters = parameter_locals(method.flags, slots);
+    code_rule(alloc, constants, number, parameters, code)
 }
 
 fn all_methods(
@@ -178,7 +181,7 @@ fn all_methods(
     requires few { length methods.now ≤ 65535 }
     requires rows { AllPass (λ member. fits_code member.code) methods.now }
     requires bytes { AllPass (λ member. has_few_bytes member.code) methods.now }
-    ensures { Answers result (each_from 0 (method_rule constants.now) methods.now) }
+    ensures { AnswersUnless OutOfMemory result (each_from 0 (method_rule constants.now) methods.now) }
 {
     let members = methods.as_slice();
     for i in 0..members.len() {
@@ -191,21 +194,23 @@ fn all_methods(
 #[tactic(auto, unfolding(crate::specs::Check::check_of))]
 fn check_parts(alloc: Global, parts: &Parts) -> Result<(), CheckFault>
     requires { IsTrue (is_countable parts.now) }
-    ensures { Answers result (check_of parts.now) }
+    ensures { AnswersUnless OutOfMemory result (check_of parts.now) }
 {
     let constants = Constants::of(alloc, &parts.pool)?;
     all_methods(alloc, &constants, &parts.methods)
 }
 
 /// Checks the code of each method of a class file against the static constraints on code (JVM Specification 4.9.1), and that
-/// no code ends behind an instruction that goes on (4.9.2). It takes time and memory in proportion to the class file.
+/// no code ends behind an instruction that goes on (4.9.2): where it answers `Ok`, the code is sound, as
+/// `specs/Sound.antt` says. It takes time and memory in proportion to the class file.
 ///
 /// # Errors
 ///
 /// The first fault: of the methods in their order; in one first the places that hold no instruction, by place; then the rules of
 /// each instruction, by place and at one by the order of `CheckKind`; then the rows of the exception table.
 pub fn check(alloc: Global, class: &ClassFile) -> Result<(), CheckFault>
-    ensures { Answers result (check_of class.now) }
+    ensures sound { OnOk result (IsSound class.now) }
+    ensures answer { AnswersUnless OutOfMemory result (check_of class.now) }
 {
     check_parts(alloc, class.parts())
 }

@@ -2,7 +2,7 @@ ghost use Rattle.std.specs.Prelude.{◌≡◌, ◌<◌, ◌^◌, length};
 ghost use Rattle.std.specs.List.{list_all};
 ghost use Rattle.mvm_base.specs.Rules.{expect};
 ghost use Rattle.mvm_check.specs.Starts.{starts_of, begins};
-ghost use Rattle.mvm_check.specs.Instructions.{kind_of, stands, rows_begin, switch_begins, has_targets, is_last, has_locals, goes_on, kept, keeps};
+ghost use Rattle.mvm_check.specs.Instructions.{kind_of, stands, targets_of_rows, has_targets, is_last, locals_at, has_locals, goes_on, kept, keeps};
 
 use crate::constants::Constants;
 use crate::fault::CheckKind;
@@ -36,7 +36,7 @@ pub(crate) fn stands(code: &[u8], pc: u32) -> Result<(), CheckKind>
 }
 
 fn rows_begin(starts: &Starts, choice: &Switch) -> bool
-    ensures { result ≡ rows_begin starts.now choice.now.rows }
+    ensures { result ≡ list_all (begins starts.now) (targets_of_rows choice.now.rows) }
 {
     for i in 0..choice.rows() {
         if !starts.begins(choice.row(i).target) {
@@ -46,20 +46,12 @@ fn rows_begin(starts: &Starts, choice: &Switch) -> bool
     true
 }
 
-#[tactic(auto, unfolding(crate::specs::Instructions::switch_begins))]
-fn switch_begins(starts: &Starts, choice: &Switch) -> bool
-    ensures { result ≡ switch_begins starts.now choice.now }
-{
-    starts.begins(choice.otherwise()) && rows_begin(starts, choice)
-}
-
-#[tactic(auto, unfolding(crate::specs::Instructions::has_targets))]
 fn has_targets(starts: &Starts, insn: &Insn) -> bool
     ensures { result ≡ has_targets starts.now insn.now }
 {
     match insn {
         Insn::Jump { target, .. } => starts.begins(*target),
-        Insn::Choice { rows, .. } => switch_begins(starts, rows),
+        Insn::Choice { rows, .. } => starts.begins(rows.otherwise()) && rows_begin(starts, rows),
         _ => true,
     }
 }
@@ -77,10 +69,17 @@ fn is_last(insn: &Insn) -> bool
     }
 }
 
-fn has_locals(room: bool, code: &Code, pc: u32, insn: &Insn) -> bool
-    ensures { result ≡ has_locals room code.now pc insn.now }
+fn locals_at(parameters: u128, pc: u32, insn: &Insn) -> u128
+    ensures { result ≡ locals_at parameters pc insn.now }
 {
-    locals_of(insn) <= u32::from(code.max_locals) && (room || pc != 0)
+    let locals = u128::from(locals_of(insn));
+    if pc == 0 { parameters.max(locals) } else { locals }
+}
+
+fn has_locals(parameters: u128, code: &Code, pc: u32, insn: &Insn) -> bool
+    ensures { result ≡ has_locals parameters code.now pc insn.now }
+{
+    locals_at(parameters, pc, insn) <= u128::from(code.max_locals)
 }
 
 fn goes_on(code: &Code, found: &At) -> bool
@@ -93,14 +92,14 @@ fn goes_on(code: &Code, found: &At) -> bool
 #[tactic(auto, unfolding(crate::specs::Instructions::kept))]
 fn kept(
     constants: &Constants,
-    room: bool,
+    parameters: u128,
     code: &Code,
     starts: &Starts,
     pc: u32,
     found: &At,
 ) -> Result<(), CheckKind>
     requires { starts.now ≡ starts_of code.now.bytes }
-    ensures { result ≡ kept constants.now room code.now pc found.now }
+    ensures { result ≡ kept constants.now parameters code.now pc found.now }
 {
     if !has_targets(starts, &found.insn) {
         return Err(CheckKind::BadTarget);
@@ -108,7 +107,7 @@ fn kept(
     if !has_operands(constants, &found.insn) {
         return Err(CheckKind::BadIndex);
     }
-    if !has_locals(room, code, pc, &found.insn) {
+    if !has_locals(parameters, code, pc, &found.insn) {
         return Err(CheckKind::BadLocal);
     }
     if !goes_on(code, found) {
@@ -121,17 +120,17 @@ fn kept(
 #[tactic(auto, unfolding(crate::specs::Instructions::keeps))]
 pub(crate) fn keeps(
     constants: &Constants,
-    room: bool,
+    parameters: u128,
     code: &Code,
     starts: &Starts,
     pc: u32,
 ) -> Result<(), CheckKind>
     requires short { length code.now.bytes < 2 ^ 32 }
     requires starts { starts.now ≡ starts_of code.now.bytes }
-    ensures { result ≡ keeps constants.now room code.now pc }
+    ensures { result ≡ keeps constants.now parameters code.now pc }
 {
     match insn_at(code.bytes.as_slice(), pc) {
-        Ok(found) => kept(constants, room, code, starts, pc, &found),
+        Ok(found) => kept(constants, parameters, code, starts, pc, &found),
         Err(_) => Ok(()),
     }
 }

@@ -7,17 +7,21 @@
 //! wants; local variables lie within `max_locals`; and no instruction but a goto, a switch, a return or a throw ends the code.
 #![tactic(auto)]
 
+mod array_types;
 mod checking;
 mod constants;
 mod fault;
 mod instruction;
+mod laws;
+mod letters;
 mod locals;
 mod operands;
-mod pool;
+mod methods;
 mod starts;
 
 pub use checking::check;
 pub use fault::{CheckFault, CheckKind};
+pub use laws::check_law;
 
 #[cfg(test)]
 mod tests;

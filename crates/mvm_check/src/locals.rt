@@ -1,7 +1,8 @@
 ghost use Rattle.std.specs.Prelude.{◌≡◌};
-ghost use Rattle.mvm_check.specs.Locals.{locals_of_plain, locals_of_named, locals_of, slots_of_this, has_room};
+ghost use Rattle.mvm_check.specs.Locals.{locals_of_plain, locals_of_named, locals_of, slots_of_this, parameter_locals};
 
 use mvm_insn::{Insn, opcodes};
+use mvm_layout::flags::is_static;
 
 #[tactic(auto, unfolding(crate::specs::Locals::locals_of_plain))]
 fn locals_of_plain(op: u8) -> u32
@@ -41,20 +42,18 @@ pub(crate) fn locals_of(insn: &Insn) -> u32
     }
 }
 
-fn slots_of_this(flags: u16) -> u64
+fn slots_of_this(flags: u16) -> u128
     ensures { result ≡ slots_of_this flags }
 {
-    if flags & 0x0008 == 0 { 1 } else { 0 }
+    if is_static(flags) { 0 } else { 1 }
 }
 
-/// Whether the local variables have room for parameters of so many slots, `this` counted unless the method is static.
-#[tactic(auto, unfolding(crate::specs::Locals::has_room))]
-pub(crate) fn has_room(flags: u16, max_locals: u16, slots: Option<u64>) -> bool
-    ensures { result ≡ has_room flags max_locals slots }
+/// How many local variables take the parameters, of so many slots, `this` counted unless the method is static.
+pub(crate) fn parameter_locals(flags: u16, slots: Option<u64>) -> u128
+    ensures { result ≡ parameter_locals flags slots }
 {
-    let slots = match slots {
-        Some(slots) => slots,
-        None => return true,
-    };
-    slots <= 65535 && slots + slots_of_this(flags) <= u64::from(max_locals)
+    match slots {
+        Some(slots) => u128::from(slots) + slots_of_this(flags),
+        None => 0,
+    }
 }

@@ -1,24 +1,19 @@
 ghost use Rattle.std.specs.Prelude.{◌≡◌, codes};
-ghost use Rattle.std.specs.Option.{option_copied};
+ghost use Rattle.std.specs.Option.{option_copied, option_and_then};
 ghost use Rattle.std.specs.Str.{bytes_eq};
 ghost use Rattle.mvm_layout.specs.Pool.{entry};
-ghost use Rattle.mvm_check.specs.Operands.{is_invocable, has_dimensions, names_dimensions, constant_operand, method_operand, class_operand, pool_operand, is_count, interface_operand, is_item_kind, multi_operand, has_operands};
+ghost use Rattle.mvm_check.specs.Operands.{parameter_slots, method_desc, is_invocable, has_dimensions, names_dimensions, constant_operand, method_operand, class_operand, pool_operand, is_count, interface_operand, is_item_kind, multi_operand, has_operands};
 
 use crate::constants::Constants;
-use crate::pool::{
-    class_name, is_class, is_field, is_interface_method, is_loadable, is_long, is_method,
-    method_desc, method_name,
-};
+use crate::array_types::{T_BOOLEAN, T_BYTE, T_CHAR, T_LONG};
+use crate::letters::{LEFT_BRACKET, LESS_THAN};
+use crate::methods::{method_desc, method_name};
 use mvm_base::{List, Name};
 use mvm_insn::{Insn, opcodes};
 use mvm_layout::Item;
-
-/// Whether these units are `<init>`.
-fn is_init(units: &[u16]) -> bool
-    ensures { result ≡ bytes_eq units.now (codes "<init>") }
-{
-    units == [0x3c, 0x69, 0x6e, 0x69, 0x74, 0x3e].as_slice()
-}
+use mvm_layout::pool::{
+    class_name, is_class, is_field, is_interface_method, is_loadable, is_long, is_method, same_text,
+};
 
 fn is_invocable(special: bool, name: Option<&Name>) -> bool
     ensures { result ≡ is_invocable special (option_copied name.entry) }
@@ -26,7 +21,7 @@ fn is_invocable(special: bool, name: Option<&Name>) -> bool
     match name {
         Some(name) => {
             let units = name.units();
-            units.is_empty() || units[0] != 0x3c || (special && is_init(units))
+            units.is_empty() || units[0] != LESS_THAN || (special && same_text(units, b"<init>"))
         }
         None => false,
     }
@@ -39,7 +34,7 @@ fn has_dimensions(dims: u8, name: &[u16]) -> bool
         if i >= name.len() {
             return false;
         }
-        if name[i] != 0x5b {
+        if name[i] != LEFT_BRACKET {
             return false;
         }
     }
@@ -104,6 +99,15 @@ fn is_count(count: u8, slots: Option<u64>) -> bool
     }
 }
 
+fn method_slots(constants: &Constants, index: u16) -> Option<u64>
+    ensures { result ≡ option_and_then (parameter_slots constants.now) (method_desc constants.now index) }
+{
+    match method_desc(constants.pool(), index) {
+        Some(desc) => constants.parameter_slots(desc),
+        None => None,
+    }
+}
+
 #[tactic(auto, unfolding(crate::specs::Operands::interface_operand))]
 fn interface_operand(constants: &Constants, index: u16, count: u8, last: u8) -> bool
     ensures { result ≡ interface_operand constants.now index count last }
@@ -111,7 +115,7 @@ fn interface_operand(constants: &Constants, index: u16, count: u8, last: u8) -> 
     let pool = constants.pool();
     is_interface_method(pool, index)
         && is_invocable(false, method_name(pool, index))
-        && is_count(count, constants.parameter_slots(method_desc(pool, index)))
+        && is_count(count, method_slots(constants, index))
         && last == 0
 }
 
@@ -119,7 +123,7 @@ fn is_item_kind(kind: u8) -> bool
     ensures { result ≡ is_item_kind kind }
 {
     match kind {
-        4..=5 | 8..=11 => true,
+        T_BOOLEAN..=T_CHAR | T_BYTE..=T_LONG => true,
         _ => false,
     }
 }

@@ -1,2 +1,4 @@
+pub mod Inside
+pub mod Keys
 pub mod RowLaws
 pub mod Runs

@@ -8,7 +8,7 @@ use Rattle.std.proofs.lemmas.Bool.Decides.{Decides-int_eq}
 use Rattle.std.proofs.lemmas.List.FromFn.{length-map-range_with_len}
 use Rattle.std.proofs.lemmas.Int.{ints}
 use Rattle.mvm_insn.specs.Rows.{rows, rising, target_in}
-use Rattle.mvm_insn.specs.declared.rows.SwitchRow.{SwitchRow}
+use Rattle.mvm_insn.specs.declared.switch_rows.SwitchRow.{SwitchRow}
 
 pub length_rows : (n : ℕ) (f : ℕ → SwitchRow) → length (rows n f) ≡ n
 unfolding rows

@@ -8,10 +8,10 @@ use Rattle.mvm_insn.specs.Rows.{SwitchParts, rows, table_row, lookup_row, word, 
 use Rattle.mvm_insn.specs.Shapes.{names_local, shape_of}
 use Rattle.mvm_insn.specs.declared.fault.InsnFault.{InsnFault}
 use Rattle.mvm_insn.specs.declared.fault.InsnFault.TheVariants.{Unknown, Unsupported, Switch}
-use Rattle.mvm_insn.specs.declared.parts.Insn.{Insn}
-use Rattle.mvm_insn.specs.declared.parts.Insn.TheVariants.{Plain, Number, Pool, Local, Inc, Jump, Choice, Interface, NewArray, Multi}
+use Rattle.mvm_insn.specs.declared.insn.Insn.{Insn}
+use Rattle.mvm_insn.specs.declared.insn.Insn.TheVariants.{Plain, Number, Pool, Local, Inc, Jump, Choice, Interface, NewArray, Multi}
 use Rattle.mvm_insn.specs.declared.opcodes.TheConstants as jvm
-use Rattle.mvm_insn.specs.declared.parts.At.{At}
+use Rattle.mvm_insn.specs.declared.insn.At.{At}
 use Rattle.mvm_insn.specs.declared.shapes.Shape.{Shape}
 use Rattle.mvm_insn.specs.declared.shapes.Shape.TheVariants.{Alone, ByteNumber, ShortNumber, BytePool, ShortPool, ByteLocal, Increment, ShortJump, LongJump, Table, Lookup, Invocation, Items, Dimensions, Widened, Foreign, Absent}
 

@@ -1,10 +1,10 @@
 -- The rows of a switch, as they stand in a method's code (JVM Specification 6.5, tableswitch and lookupswitch).
-use Rattle.std.specs.Prelude.{ℕ, zero, suc, ◌+◌, ◌*◌, ℤ, pos, ◌+ℤ◌, List, [], ◌∷◌, drop, map, Bool, true, ◌&&◌, int_lt, if◌then◌else◌, Option, Some, None}
+use Rattle.std.specs.Prelude.{◌≡◌, ℕ, zero, suc, ◌<◌, ◌+◌, ◌*◌, ℤ, pos, ◌<ℤ◌, ◌+ℤ◌, List, [], ◌∷◌, drop, slice_get, map, Bool, true, ◌&&◌, int_lt, if◌then◌else◌, Option, Some, None}
 use Rattle.std.specs.List.{range_with_len}
 use Rattle.std.specs.Int.{w32, cast_signed}
 use Rattle.std.specs.Ordering.{int_eq}
 use Rattle.mvm_base.specs.Endian.{big_number}
-use Rattle.mvm_insn.specs.declared.rows.SwitchRow.{SwitchRow}
+use Rattle.mvm_insn.specs.declared.switch_rows.SwitchRow.{SwitchRow}
 
 -- the number in two's complement in the four bytes behind so many times four
 unfoldable pub word : List ℕ → ℕ → ℤ
@@ -26,6 +26,10 @@ rows count row = map row (range_with_len 0 count)
 abbrev pub rising : ℕ → (ℕ → ℤ) → Bool
 rising zero key = true
 rising (suc n) key = rising n key && int_lt (key n) (key (n + 1))
+
+-- the key of each row is below those of all rows behind it
+abbrev pub KeysRise : List SwitchRow → Type 0
+KeysRise rows = (i j : ℕ) (first second : SwitchRow) → i < j → slice_get rows i ≡ Some first → slice_get rows j ≡ Some second → first.key <ℤ second.key
 
 -- the target of the row that has a key
 abbrev pub target_in : List SwitchRow → ℤ → Option ℤ

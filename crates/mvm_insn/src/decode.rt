@@ -3,13 +3,13 @@ ghost use Rattle.mvm_base.specs.Answers.{Gives};
 ghost use Rattle.mvm_insn.specs.Insns.{table, lookup, chosen, operands, read_at, insn};
 
 use crate::fault::InsnFault;
-use crate::parts::{At, Insn};
+use crate::insn::{At, Insn};
 use crate::read::{
     byte_local, byte_number, byte_pool, dimensions, increment, invocation, items, long_jump,
     short_jump, short_number, short_pool, u1, widened,
 };
 use crate::shapes::{Shape, shape_of};
-use crate::switches::{lookup, table};
+use crate::read_switch::{lookup, table};
 use mvm_base::Cursor;
 
 fn table_insn<'a>(at: u32, op: u8, cursor: &mut Cursor<'a>) -> Result<Insn<'a>, InsnFault>

@@ -6,21 +6,22 @@
 //! see them as a list of keys and targets.
 #![tactic(auto)]
 
-mod choice;
 mod decode;
 mod fault;
+mod insn;
+pub mod laws;
 pub mod opcodes;
-mod parts;
 mod read;
-mod rows;
+mod read_switch;
 mod shapes;
-mod switches;
+mod switch;
+mod switch_rows;
 
-pub use choice::Switch;
 pub use decode::insn_at;
 pub use fault::InsnFault;
-pub use parts::{At, Insn};
-pub use rows::SwitchRow;
+pub use insn::{At, Insn};
+pub use switch::Switch;
+pub use switch_rows::SwitchRow;
 
 #[cfg(test)]
 mod tests;

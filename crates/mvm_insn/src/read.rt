@@ -6,7 +6,7 @@ ghost use Rattle.mvm_insn.specs.Insns.{byte_number, short_number, byte_pool, sho
 
 use crate::fault::InsnFault;
 use crate::opcodes;
-use crate::parts::Insn;
+use crate::insn::Insn;
 use mvm_base::Cursor;
 
 pub(crate) fn u1(cursor: &mut Cursor) -> Result<u8, InsnFault>

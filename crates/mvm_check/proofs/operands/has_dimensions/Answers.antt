@@ -7,8 +7,8 @@ returns-then-i-name c =
     let e = dimensions-end c.args.dims c.loop-i.i c.args.name.now (omega arith) (omega arith) in
     grind (arith, e)
 
-pub returns-then-name-i-ne91 : goal.returns-then-name-i-ne91
-returns-then-name-i-ne91 c =
+pub returns-then-name-i-ne-LEFT_BRACKET : goal.returns-then-name-i-ne-LEFT_BRACKET
+returns-then-name-i-ne-LEFT_BRACKET c =
     let e = dimensions-step c.args.dims c.loop-i.i c.args.name.now (omega arith) (omega arith) in
     grind (arith, e)
 

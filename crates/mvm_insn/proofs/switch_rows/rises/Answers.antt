@@ -3,7 +3,7 @@ use Rattle.std.specs.Prelude.{◌≤ℤ◌}
 use Rattle.std.proofs.lemmas.Int.{ints}
 use Rattle.mvm_insn.specs.Rows.{word}
 use Rattle.mvm_insn.proofs.RowLaws.{rising-stops}
-use Rattle.mvm_insn.proofs.rows.rises.Goals as goal
+use Rattle.mvm_insn.proofs.switch_rows.rises.Goals as goal
 
 pub returns-then-word : goal.returns-then-word
 returns-then-word c =

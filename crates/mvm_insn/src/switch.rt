@@ -1,7 +1,7 @@
 ghost use Rattle.std.specs.Prelude.{◌≡◌, ◌<◌, length, slice_get, Some, unwrap_or};
-ghost use Rattle.mvm_insn.specs.Rows.{target_in};
+ghost use Rattle.mvm_insn.specs.Rows.{KeysRise, target_in};
 
-use crate::rows::{Lookup, SwitchRow, Table};
+use crate::switch_rows::{Lookup, SwitchRow, Table};
 use std::marker::Model;
 
 #[derive(Debug, Drop)]
@@ -59,7 +59,9 @@ impl<'a> Switch<'a> {
 
     /// How many rows there are.
     pub fn rows(&self) -> u32
-        ensures { result ≡ length self.now.rows }
+        ensures count { result ≡ length self.now.rows }
+        // The key of each row is below those of all rows behind it (JVM Specification 6.5, tableswitch and lookupswitch).
+        ensures rising { KeysRise self.now.rows }
     {
         match &self.rows {
             Rows::Table(rows) => rows.len(),

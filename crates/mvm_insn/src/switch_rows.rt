@@ -1,5 +1,5 @@
 ghost use Rattle.std.specs.Prelude.{◌≡◌, ◌≢◌, ◌<◌, ◌≤◌, ℕ, ◌+◌, ◌-◌, ◌*◌, ◌^◌, pos, ◌+ℤ◌, ◌<ℤ◌, ◌≤ℤ◌, length, true, slice_get, Some, MatchOption};
-ghost use Rattle.mvm_insn.specs.Rows.{word, rows, table_row, lookup_row, rising, target_in};
+ghost use Rattle.mvm_insn.specs.Rows.{word, rows, table_row, lookup_row, rising, KeysRise, target_in};
 
 use byteorder::{BigEndian, ByteOrder};
 use std::marker::Model;
@@ -117,7 +117,7 @@ pub(crate) struct Table<'a> {
 impl<'a> Model for Table<'a> {
     ghost use Rattle.std.specs.Prelude.{List, ◌≡◌, ◌*◌, ◌^◌, length, pos, ◌+ℤ◌, ◌≤ℤ◌};
     ghost use Rattle.mvm_insn.specs.Rows.{rows, table_row};
-    ghost use Rattle.mvm_insn.specs.declared.rows.SwitchRow.{SwitchRow};
+    ghost use Rattle.mvm_insn.specs.declared.switch_rows.SwitchRow.{SwitchRow};
 
     ghost Value = { List SwitchRow };
 
@@ -142,7 +142,8 @@ impl<'a> Table<'a> {
 
     #[tactic(auto, using(crate::proofs::RowLaws::length_rows))]
     pub(crate) fn len(&self) -> u32
-        ensures { result ≡ length self.now }
+        ensures len { result ≡ length self.now }
+        ensures rising { KeysRise self.now }
     {
         self.count
     }
@@ -175,7 +176,7 @@ pub(crate) struct Lookup<'a> {
 impl<'a> Model for Lookup<'a> {
     ghost use Rattle.std.specs.Prelude.{List, ◌≡◌, ◌*◌, ◌-◌, length, true};
     ghost use Rattle.mvm_insn.specs.Rows.{rows, lookup_row, rising, word};
-    ghost use Rattle.mvm_insn.specs.declared.rows.SwitchRow.{SwitchRow};
+    ghost use Rattle.mvm_insn.specs.declared.switch_rows.SwitchRow.{SwitchRow};
 
     ghost Value = { List SwitchRow };
 
@@ -195,7 +196,8 @@ impl<'a> Lookup<'a> {
 
     #[tactic(auto, using(crate::proofs::RowLaws::length_rows))]
     pub(crate) fn len(&self) -> u32
-        ensures { result ≡ length self.now }
+        ensures len { result ≡ length self.now }
+        ensures rising { KeysRise self.now }
     {
         self.count
     }

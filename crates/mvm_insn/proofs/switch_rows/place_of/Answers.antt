@@ -3,7 +3,7 @@ use Rattle.std.specs.Prelude.{◌<ℤ◌}
 use Rattle.std.proofs.lemmas.Int.{ints}
 use Rattle.mvm_insn.specs.Rows.{word}
 use Rattle.mvm_insn.proofs.RowLaws.{between-up, between-down}
-use Rattle.mvm_insn.proofs.rows.place_of.Goals as goal
+use Rattle.mvm_insn.proofs.switch_rows.place_of.Goals as goal
 
 pub loop-low-preserved-then-here-key-2 : goal.loop-low-preserved-then-here-key-2
 loop-low-preserved-then-here-key-2 c =

@@ -1,9 +1,9 @@
 use Rattle.std.proofs.Common.{◌≡◌, List, length, ◌∙◌, ap, sym, Some, slice_get, ℤ, w32, to_z, of_z, arith}
 use Rattle.std.proofs.lemmas.Int.{ints}
 use Rattle.mvm_insn.specs.Rows.{table_row}
-use Rattle.mvm_insn.specs.declared.rows.SwitchRow.{SwitchRow}
+use Rattle.mvm_insn.specs.declared.switch_rows.SwitchRow.{SwitchRow}
 use Rattle.mvm_insn.proofs.RowLaws.{length_rows, get_rows}
-use Rattle.mvm_insn.proofs.rows.Table.row.Goals as goal
+use Rattle.mvm_insn.proofs.switch_rows.Table.row.Goals as goal
 
 pub table_row-requires-clause-whole : goal.table_row-requires-clause-whole
 table_row-requires-clause-whole c =

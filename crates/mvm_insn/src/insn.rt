@@ -1,4 +1,4 @@
-use crate::choice::Switch;
+use crate::switch::Switch;
 
 /// An instruction with its operands (JVM Specification 6.5). A target is a place in the method's code, counted from its
 /// first byte; it may lie outside. Where `wide` is true, the opcode is the one behind `wide`.

@@ -3,7 +3,7 @@ use Rattle.std.specs.Prelude.{ℤ}
 use Rattle.std.proofs.lemmas.Int.{ints}
 use Rattle.mvm_insn.specs.Rows.{table_row}
 use Rattle.mvm_insn.proofs.RowLaws.{length_rows, target_found, target_missed, counted_apart}
-use Rattle.mvm_insn.proofs.rows.Table.target.Goals as goal
+use Rattle.mvm_insn.proofs.switch_rows.Table.target.Goals as goal
 
 pub row-requires : goal.row-requires
 row-requires c =

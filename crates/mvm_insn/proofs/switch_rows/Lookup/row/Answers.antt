@@ -1,7 +1,7 @@
 use Rattle.std.proofs.Common.{◌≡◌, length, arith}
 use Rattle.mvm_insn.specs.Rows.{lookup_row}
 use Rattle.mvm_insn.proofs.RowLaws.{length_rows, get_rows}
-use Rattle.mvm_insn.proofs.rows.Lookup.row.Goals as goal
+use Rattle.mvm_insn.proofs.switch_rows.Lookup.row.Goals as goal
 
 pub lookup_row-requires : goal.lookup_row-requires
 lookup_row-requires c =
