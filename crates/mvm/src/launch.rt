@@ -4,23 +4,18 @@ ghost use Rattle.mvm_first_form.specs.File.{IsFirstForm};
 ghost use Rattle.mvm_interp.specs.Run.{RunsTo};
 ghost use Rattle.mvm_interp.specs.declared.block.Block.{Block};
 ghost use Rattle.mvm.specs.Status.{status_of};
-ghost use Rattle.mvm.specs.Launch.{Reading, Writing, AskForRun, IsClassFile, HasRun, IsFaulty, IsRefused, Answers, KeepsSink, StopsBefore, Writes};
+ghost use Rattle.mvm.specs.Launch.{reading, writing, AskForRun, IsClassFile, RunsBytes, IsFaulty, IsRefused, Answers, KeepsSink, CanRun, IsNoRefusal};
 
-use crate::outcome::{Ended, Outcome, What, status_of};
+use crate::outcome::{Ended, Outcome, What};
 use crate::refusal::Refusal;
 use crate::report::report;
-use mvm_base::{List, OutOfMemory, Steps};
-use mvm_classfile::{ClassFault, read_class};
+use mvm_base::{List, OutOfMemory};
+use mvm_classfile::{ClassFault, read_uncounted};
 use mvm_first_form::{FirstForm, read_first_form};
 use mvm_interp::run;
-use mvm_outside::{Gate, ReadRefusal, Sink, Source, Store, read_all, write_all};
+use mvm_outside::{Gate, MOST_FILE_BYTES, ReadRefusal, Sink, Source, Store, read_all, write_all};
 use std::alloc::Global;
-use std::marker::Brand;
-use std::sync::ledger::{Blank, Ledger};
 use std::thread::Threads;
-
-/// How many bytes the input may have.
-const MOST_INPUT_BYTES: usize = 1_048_576;
 
 /// The one word that is a command at this stage.
 fn asks_for_run(words: &[String]) -> bool
@@ -32,28 +27,16 @@ fn asks_for_run(words: &[String]) -> bool
     }
 }
 
-fn check_counted<L: Ledger>(alloc: Global, bytes: &[u8], blank: Blank) -> Result<(), ClassFault>
-    requires name { blank.name ≡ L.name }
-    requires parts { blank.parts ≡ L.parts }
-    requires share { 0 < L.parts }
-    requires few { length bytes.now < 2 ^ 32 }
-    ensures ok { OnOk result (IsClassFile bytes.now) }
-    ensures err { IfErr result (λ fault. fault ≢ class_fault.OutOfMemory → IsFaulty bytes.now fault) }
-{
-    let mut steps: Steps<L> = Steps::new(blank);
-    match read_class(alloc, bytes, &mut steps) {
-        Ok(_) => Ok(()),
-        Err(fault) => Err(fault),
-    }
-}
-
-/// Reads a class file through, at steps that nobody counts.
+/// Reads a class file through.
 fn check(alloc: Global, bytes: &[u8]) -> Result<(), ClassFault>
     requires { length bytes.now < 2 ^ 32 }
     ensures ok { OnOk result (IsClassFile bytes.now) }
     ensures err { IfErr result (λ fault. fault ≢ class_fault.OutOfMemory → IsFaulty bytes.now fault) }
 {
-    check_counted::<Brand>(alloc, bytes, Blank::new(1))
+    match read_uncounted(alloc, bytes) {
+        Ok(_) => Ok(()),
+        Err(fault) => Err(fault),
+    }
 }
 
 /// The class of the bytes, if they are a class file that the machine of this stage can run.
@@ -71,28 +54,6 @@ fn read(alloc: Global, bytes: &[u8]) -> Result<FirstForm, ClassFault>
     }
 }
 
-/// Reads the class file and runs it. An `Err` is the answer of the whole call.
-fn run_input<S: Source>(alloc: Global, script: &mut S) -> Result<Outcome, What>
-    ensures ok { IfOk result (HasRun (record { left_before = S.left script.old; left_after = S.left script.new; faults_before = S.faults script.old; faults_after = S.faults script.new })) }
-    ensures err { IfErr result (StopsBefore (record { left_before = S.left script.old; left_after = S.left script.new; faults_before = S.faults script.old; faults_after = S.faults script.new })) }
-{
-    let bytes = match read_all(alloc, script, MOST_INPUT_BYTES) {
-        Ok(bytes) => bytes,
-        Err(ReadRefusal::ReadFault) => return Err(What::Refused(Refusal::ReadFault)),
-        Err(ReadRefusal::InputTooLong) => return Err(What::Refused(Refusal::InputTooLong)),
-        Err(ReadRefusal::OutOfMemory) => return Err(What::OutOfMemory),
-    };
-    let form = match read(alloc, bytes.as_slice()) {
-        Ok(form) => form,
-        Err(ClassFault::OutOfMemory) => return Err(What::OutOfMemory),
-        Err(fault) => return Err(What::Refused(Refusal::Class(fault))),
-    };
-    match outcome_of(alloc, form) {
-        Ok(outcome) => Ok(outcome),
-        Err(OutOfMemory) => Err(What::OutOfMemory),
-    }
-}
-
 /// What is left of the one isolate that runs the class.
 fn outcome_of(alloc: Global, form: FirstForm) -> Result<Outcome, OutOfMemory>
     ensures { IfOk result (λ outcome. (block : Block) × RunsTo form block × (outcome.isolates ≡ block ∷ [])) }
@@ -103,10 +64,38 @@ fn outcome_of(alloc: Global, form: FirstForm) -> Result<Outcome, OutOfMemory>
     Ok(Outcome { isolates })
 }
 
-/// Writes the report of a run. The answer is that of the whole call.
-fn write_report<K: Sink>(alloc: Global, outcome: Outcome, out: &mut K) -> What
-    ensures { Writes outcome (record { taken_before = K.taken out.old; taken_after = K.taken out.new; faults_before = K.faults out.old; faults_after = K.faults out.new; idle_before = K.idle out.old; idle_after = K.idle out.new }) (out.new ≡ out.old) result }
+/// What a run of the class file leaves, or why the bytes can't be run.
+fn run_bytes(alloc: Global, bytes: &[u8]) -> Result<Outcome, ClassFault>
+    requires { length bytes.now < 2 ^ 32 }
+    ensures ok { IfOk result (RunsBytes bytes.now) }
+    ensures err { IfErr result (λ fault. fault ≢ class_fault.OutOfMemory → IsRefused bytes.now fault) }
 {
+    let form = read(alloc, bytes)?;
+    match outcome_of(alloc, form) {
+        Ok(outcome) => Ok(outcome),
+        Err(OutOfMemory) => Err(ClassFault::OutOfMemory),
+    }
+}
+
+/// The answer of a call: its source is read, the class file is run, and the report is written.
+fn answer<S: Source, K: Sink>(alloc: Global, words: &[String], script: &mut S, out: &mut K) -> What
+    ensures answer { Answers (map string_bytes words.now) (reading S.left S.faults script.old script.new) (writing K.taken K.faults K.idle out.old out.new) result }
+    ensures sink { KeepsSink result out.old out.new }
+{
+    if !asks_for_run(words) {
+        return What::Refused(Refusal::Usage);
+    }
+    let bytes = match read_all(alloc, script, MOST_FILE_BYTES) {
+        Ok(bytes) => bytes,
+        Err(ReadRefusal::ReadFault) => return What::Refused(Refusal::ReadFault),
+        Err(ReadRefusal::InputTooLong) => return What::Refused(Refusal::InputTooLong),
+        Err(ReadRefusal::OutOfMemory) => return What::OutOfMemory,
+    };
+    let outcome = match run_bytes(alloc, bytes.as_slice()) {
+        Ok(outcome) => outcome,
+        Err(ClassFault::OutOfMemory) => return What::OutOfMemory,
+        Err(fault) => return What::Refused(Refusal::Class(fault)),
+    };
     let text = match report(alloc, &outcome, false) {
         Ok(text) => text,
         Err(OutOfMemory) => return What::OutOfMemory,
@@ -117,52 +106,36 @@ fn write_report<K: Sink>(alloc: Global, outcome: Outcome, out: &mut K) -> What
     }
 }
 
-fn answer<S: Source, K: Sink>(alloc: Global, words: &[String], script: &mut S, out: &mut K) -> What
-    ensures answer { Answers (map string_bytes words.now)
-        (record { left_before = S.left script.old; left_after = S.left script.new; faults_before = S.faults script.old; faults_after = S.faults script.new })
-        (record { taken_before = K.taken out.old; taken_after = K.taken out.new; faults_before = K.faults out.old; faults_after = K.faults out.new; idle_before = K.idle out.old; idle_after = K.idle out.new })
-        result }
-    ensures sink { KeepsSink result out.old out.new }
-{
-    if !asks_for_run(words) {
-        return What::Refused(Refusal::Usage);
-    }
-    match run_input(alloc, script) {
-        Ok(outcome) => write_report(alloc, outcome, out),
-        Err(what) => what,
-    }
-}
-
 /// Runs `mvm` with these words (without the program's name). The words `run` read one class file from `script`, to
 /// its end, run its `main` as isolate 0 with the limits that every isolate has by default, and write the report to
 /// `out`, assembled whole before its first byte. Every other words are a usage refusal.
 ///
 /// A class file that is read, but is not of the first form, is refused as unsupported: this stage can't run it yet. `files`
 /// and `gate` are not used: a class file comes from `script`, and there is one isolate.
+#[tactic(auto, using(crate::proofs::Complete::complete))]
 pub fn launch<R: Threads + Sync, S: Source, F: Store, K: Sink, G: Gate>(
     _rt: &R,
     alloc: Global,
     words: &[String],
     script: &mut S,
-    _files: &mut F,
+    files: &mut F,
     out: &mut K,
     _gate: &G,
 ) -> Ended
     // What the answer says of the words, the source, the machine and the sink.
-    ensures answer { Answers (map string_bytes words.now)
-        (record { left_before = S.left script.old; left_after = S.left script.new; faults_before = S.faults script.old; faults_after = S.faults script.new })
-        (record { taken_before = K.taken out.old; taken_after = K.taken out.new; faults_before = K.faults out.old; faults_after = K.faults out.new; idle_before = K.idle out.old; idle_after = K.idle out.new })
-        result.what }
+    ensures answer { Answers (map string_bytes words.now) (reading S.left S.faults script.old script.new) (writing K.taken K.faults K.idle out.old out.new) result.what }
+
+    // Where nothing stands in the way of a run, the answer is a run, unless memory ran out.
+    ensures complete { CanRun (map string_bytes words.now) (reading S.left S.faults script.old script.new) (writing K.taken K.faults K.idle out.old out.new) → IsNoRefusal result.what }
 
     // Where there was no report to write, the sink is as before.
     ensures sink { KeepsSink result.what out.old out.new }
 
+    // The store is as before.
+    ensures files { files.new ≡ files.old }
+
     // The status is the answer's.
     ensures status { result.status ≡ status_of result.what }
 {
-    let what = answer(alloc, words, script, out);
-    Ended {
-        status: status_of(&what),
-        what,
-    }
+    Ended::new(answer(alloc, words, script, out))
 }

@@ -1,4 +1,4 @@
-//! `mvm`: runs Java applications. At this stage it runs one class file that it reads from standard input.
+//! Program: `mvm`, which runs Java applications. At this stage it runs one class file that it reads from standard input.
 //!
 //! The program hands [`launch::launch`] its words, standard input, the current folder and standard output, prints what a
 //! refusal reads as on standard error, and ends with the status. What `launch` promises stands at it.
@@ -9,41 +9,38 @@ mod outcome;
 mod refusal;
 mod report;
 #[cfg(test)]
-mod rows;
-#[cfg(test)]
 mod tests;
 mod texts;
+#[cfg(test)]
+mod worked_rows;
 
 use launch::launch;
 use mvm_base::OutOfMemory;
 use mvm_outside::{FolderStore, NoGate, ReadSource, WriteSink};
-use outcome::What;
-use refusal::refusal_text;
+use outcome::{Ended, What};
+use refusal::{Refusal, refusal_text};
 use std::process::ExitCode;
 use std::{env, io};
 
-/// The status where memory ran out before there was a call.
-const OUT_OF_MEMORY: u8 = 6;
-
 fn main(rt: HostRuntime) -> ExitCode {
-    let Ok(words) = words_of(&rt) else {
-        complain(&rt, &What::OutOfMemory);
-        return ExitCode::from(OUT_OF_MEMORY);
+    let ended = match words_of(&rt) {
+        Ok(words) => launch(
+            &rt,
+            rt.alloc(),
+            words.as_slice(),
+            &mut ReadSource::new(rt.stdin()),
+            &mut FolderStore::new(&rt),
+            &mut WriteSink::new(rt.stdout()),
+            &NoGate,
+        ),
+        Err(error) if error.kind() == io::ErrorKind::OutOfMemory => Ended::new(What::OutOfMemory),
+        Err(_) => Ended::new(What::Refused(Refusal::Usage)),
     };
-    let ended = launch(
-        &rt,
-        rt.alloc(),
-        words.as_slice(),
-        &mut ReadSource::new(rt.stdin()),
-        &mut FolderStore::new(&rt),
-        &mut WriteSink::new(rt.stdout()),
-        &NoGate,
-    );
     complain(&rt, &ended.what);
     ExitCode::from(ended.status)
 }
 
-/// The words of the command line, without the program's name.
+/// The words of the command line, without the program's name. A word that is not UTF-8 is an error.
 fn words_of(rt: &HostRuntime) -> io::Result<Vec<String>> {
     let mut words = Vec::new(rt.alloc());
     for word in env::args(rt)?.skip(1) {

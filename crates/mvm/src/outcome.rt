@@ -32,8 +32,20 @@ pub struct Ended {
     pub what: What,
 }
 
+impl Ended {
+    /// The end of a call with this answer.
+    pub fn new(what: What) -> Ended
+        ensures { result ≡ record { status = status_of what; what = what } }
+    {
+        Ended {
+            status: status_of(&what),
+            what,
+        }
+    }
+}
+
 /// The status that a call ends with.
-pub fn status_of(what: &What) -> u8
+fn status_of(what: &What) -> u8
     ensures { result ≡ status_of what.now }
 {
     match what {
