@@ -151,6 +151,7 @@ impl<'a, R: Files> Store for FolderStore<'a, R> {
 
     /// Counts a fault exactly where it answers `Failed`.
     fn read_file(&mut self, alloc: Global, name: &Line) -> Result<Option<List<u8>>, StoreFault>
+        // The clauses of the trait come first. A real folder tells nothing of its files, so those on files ask nothing here.
         ensures kept { untold ≡ untold }
         ensures found { IfOk result (λ file. IfSome file (λ bytes. HasFile untold name.now bytes)) }
         ensures within { IfOk result (λ file. IfSome file (λ bytes. length bytes ≤ MOST_FILE_BYTES)) }
