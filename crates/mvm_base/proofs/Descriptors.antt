@@ -5,13 +5,13 @@ use Rattle.std.proofs.lemmas.Bool.Decides.{nat_tests}
 use Rattle.mvm_base.specs.Place.{Place}
 use Rattle.mvm_base.specs.Descriptor.{spelled_base, spelled_field, IsBase, IsField, with_letter, is_misplaced, name_in, plain, object, plain_or, base_in, with_dims, field_in, ended, field_of, is_next, with_field, params_in}
 use Rattle.mvm_base.specs.Answers.{◌>>=◌, AnswersUnless}
-use Rattle.mvm_base.specs.ClassName.{is_name_unit, is_binary_name}
+use Rattle.mvm_base.specs.ClassName.{is_name_unit}
 use Rattle.mvm_base.proofs.Names.{has_parts, parts_are}
 use Rattle.mvm_base.specs.declared.descriptor.Base.{Base}
 use Rattle.mvm_base.specs.declared.descriptor.Base.TheVariants.{Boolean, Byte, Char, Short, Int, Long, Object}
 use Rattle.mvm_base.specs.declared.descriptor.FieldShape.{FieldShape}
 use Rattle.mvm_base.specs.declared.descriptor.DescFault.{DescFault}
-use Rattle.mvm_base.specs.declared.descriptor.DescFault.TheVariants.{Empty, BadLetter, Open, Trailing, Float, OutOfMemory}
+use Rattle.mvm_base.specs.declared.descriptor.DescFault.TheVariants.{BadLetter, Trailing, Float, OutOfMemory}
 
 abbrev pub with_front : List ℕ → Result (List ℕ × Place) DescFault → Result (List ℕ × Place) DescFault
 with_front front (Ok x) = Ok (front ++ x.0, x.1)

@@ -1,8 +1,8 @@
 -- A text has the fault that is told of it, and no other.
-use Rattle.std.proofs.Common.{◌≡◌, ◌≢◌, ◌↔◌, ℕ, ◌+◌, ◌<◌, List, [], ◌∷◌, ◌++◌, length, replicate, flat_map, Result, Ok, Err, refl, sym, ap, subst, ◌∙◌, append_assoc, append-nil, arith}
+use Rattle.std.proofs.Common.{◌≡◌, ◌≢◌, ◌↔◌, ℕ, List, [], ◌∷◌, ◌++◌, length, Result, Ok, Err, refl, sym, ap, subst, ◌∙◌, append-nil, arith}
 use Rattle.mvm_base.specs.Place.{Place}
 use Rattle.mvm_base.specs.Answers.{AnswersUnless}
-use Rattle.mvm_base.specs.Descriptor.{spelled_field, spelled_method, field_in, field_of, method_of}
+use Rattle.mvm_base.specs.Descriptor.{field_in, field_of, method_of}
 use Rattle.mvm_base.specs.DescriptorFaults.{IsFieldText, IsMethodText, HasFault}
 use Rattle.mvm_base.specs.declared.descriptor.FieldShape.{FieldShape}
 use Rattle.mvm_base.specs.declared.descriptor.MethodShape.{MethodShape}

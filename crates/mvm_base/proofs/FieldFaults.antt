@@ -1,9 +1,9 @@
 -- What the fault of a field descriptor says of all field descriptors.
-use Rattle.std.proofs.Common.{◌≡◌, ℕ, zero, suc, ◌+◌, ◌<◌, Bool, true, false, ◌||◌, ◌==◌, cond, eqb, ltb, List, [], ◌∷◌, ◌++◌, length, replicate, Option, Some, None, Result, Ok, Err, refl, sym, ap, subst, ◌∙◌, append_assoc, append-nil, arith}
+use Rattle.std.proofs.Common.{◌≡◌, ℕ, suc, ◌+◌, ◌<◌, Bool, true, false, ◌||◌, ◌==◌, cond, eqb, ltb, List, [], ◌∷◌, ◌++◌, length, replicate, Option, Some, None, Result, Ok, Err, refl, sym, ap, subst, ◌∙◌, append_assoc, append-nil, arith}
 use Rattle.std.proofs.lemmas.Bool.Decides.{nat_tests}
 use Rattle.mvm_base.specs.Place.{Place}
 use Rattle.mvm_base.specs.Answers.{◌>>=◌}
-use Rattle.mvm_base.specs.Descriptor.{spelled_base, spelled_field, IsBase, IsField, with_letter, is_misplaced, name_in, plain, object, plain_or, object_in, base_in, with_dims, field_in, ended, field_of, is_next}
+use Rattle.mvm_base.specs.Descriptor.{spelled_base, spelled_field, IsBase, with_letter, is_misplaced, name_in, plain, object, plain_or, object_in, base_in, with_dims, field_in, ended, field_of}
 use Rattle.mvm_base.specs.DescriptorFaults.{IsFieldText, IsBeginning, HasFault}
 use Rattle.mvm_base.specs.declared.descriptor.Base.{Base}
 use Rattle.mvm_base.specs.declared.descriptor.Base.TheVariants.{Int, Object}

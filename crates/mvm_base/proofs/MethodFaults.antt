@@ -1,11 +1,11 @@
 -- What the fault of a method descriptor says of all method descriptors.
-use Rattle.std.proofs.Common.{◌≡◌, ℕ, zero, suc, ◌+◌, ◌<◌, ◌≤◌, Bool, true, false, ◌==◌, cond, List, [], ◌∷◌, ◌++◌, length, drop, replicate, flat_map, All, IfSome, Option, Some, None, Result, Ok, Err, refl, sym, ap, subst, ◌∙◌, append_assoc, append-nil, length-append, arith}
+use Rattle.std.proofs.Common.{◌≡◌, ℕ, zero, suc, ◌+◌, ◌≤◌, Bool, true, false, ◌==◌, cond, List, [], ◌∷◌, ◌++◌, length, drop, replicate, flat_map, All, IfSome, Option, Some, None, Result, Ok, Err, refl, sym, ap, subst, ◌∙◌, append_assoc, append-nil, length-append, arith}
 use Rattle.std.proofs.lemmas.Bool.Decides.{nat_tests}
 use Rattle.std.proofs.lemmas.List.Elements.{All-nil, All-cons}
 use Rattle.mvm_base.specs.Place.{Place}
 use Rattle.mvm_base.specs.Answers.{◌>>=◌}
 use Rattle.mvm_base.specs.Descriptor.{spelled_base, spelled_field, spelled_result, spelled_method, IsField, IsMethod, field_in, ended, is_next, with_field, params_in, some_field, result_in, after_params, method_in, method_of}
-use Rattle.mvm_base.specs.DescriptorFaults.{IsFieldText, IsMethodText, IsBeginning, HasFault}
+use Rattle.mvm_base.specs.DescriptorFaults.{IsMethodText, IsBeginning, HasFault}
 use Rattle.mvm_base.specs.declared.descriptor.FieldShape.{FieldShape}
 use Rattle.mvm_base.specs.declared.descriptor.MethodShape.{MethodShape}
 use Rattle.mvm_base.specs.declared.descriptor.DescFault.{DescFault}

@@ -10,7 +10,7 @@ use Rattle.mvm_base.specs.declared.descriptor.Base.TheVariants.{Boolean, Byte, C
 use Rattle.mvm_base.specs.declared.descriptor.FieldShape.{FieldShape}
 use Rattle.mvm_base.specs.declared.descriptor.MethodShape.{MethodShape}
 use Rattle.mvm_base.specs.declared.descriptor.DescFault.{DescFault}
-use Rattle.mvm_base.specs.declared.descriptor.DescFault.TheVariants.{BadLetter, Trailing, OutOfMemory}
+use Rattle.mvm_base.specs.declared.descriptor.DescFault.TheVariants.{Trailing, OutOfMemory}
 use Rattle.mvm_base.proofs.Descriptors.{Stops, field_takes, field_again, some_letters}
 
 -- ---- letters

@@ -1,6 +1,6 @@
 -- The parts between the slashes of a class's name, in one pass.
-use Rattle.std.proofs.Common.{◌≡◌, ℕ, Bool, true, false, not, ◌&&◌, ◌==◌, cond, eqb, List, [], ◌∷◌, refl}
-use Rattle.std.specs.List.{list_all, slice_split, onto_first}
+use Rattle.std.proofs.Common.{◌≡◌, ℕ, Bool, true, false, not, ◌&&◌, cond, eqb, List, [], ◌∷◌, refl}
+use Rattle.std.specs.List.{list_all, onto_first}
 use Rattle.mvm_base.specs.ClassName.{parts_of, is_name_unit, is_part, is_binary_name}
 
 -- whether each part has units, the first of which began before: it has none so far where is_open is true

@@ -1,6 +1,6 @@
 -- No text has two faults, and a text of the set has none.
-use Rattle.std.proofs.Common.{◌≡◌, ◌≢◌, ℕ, suc, ◌+◌, ◌<◌, ◌≤◌, Bool, true, false, List, [], ◌∷◌, ◌++◌, length, refl, sym, ap, subst, ◌∙◌, append_assoc, append-nil, length-append, arith}
-use Rattle.mvm_base.specs.DescriptorFaults.{IsBeginning, GoesWrong, IsFloat, IsBadAt, HasFloat, EndsInside, GoesBeyond, HasFault}
+use Rattle.std.proofs.Common.{◌≡◌, ◌≢◌, ℕ, ◌≤◌, List, [], ◌∷◌, ◌++◌, length, refl, sym, ap, subst, ◌∙◌, append_assoc, append-nil, length-append, arith}
+use Rattle.mvm_base.specs.DescriptorFaults.{IsBeginning, GoesWrong, IsFloat, IsBadAt, HasFloat, GoesBeyond, HasFault}
 use Rattle.mvm_base.specs.declared.descriptor.DescFault.{DescFault}
 use Rattle.mvm_base.specs.declared.descriptor.DescFault.TheVariants.{Empty, BadLetter, Open, Trailing, Float, OutOfMemory}
 

@@ -1,7 +1,7 @@
 -- What a reader's fault tells of the texts that it reads: from parts to wholes.
-use Rattle.std.proofs.Common.{◌≡◌, ◌≢◌, ℕ, ◌+◌, Bool, true, false, ◌||◌, eqb, List, [], ◌∷◌, ◌++◌, length, refl, sym, ap, subst, ◌∙◌, append_assoc, append-nil, length-append, arith}
+use Rattle.std.proofs.Common.{◌≡◌, ◌≢◌, ℕ, ◌+◌, true, false, ◌||◌, eqb, List, [], ◌∷◌, ◌++◌, length, refl, sym, ap, subst, ◌∙◌, append_assoc, append-nil, length-append, arith}
 use Rattle.mvm_base.specs.Descriptor.{is_next}
-use Rattle.mvm_base.specs.DescriptorFaults.{IsBeginning, GoesWrong, IsFloat, IsBadAt, HasFloat, EndsInside, HasFault}
+use Rattle.mvm_base.specs.DescriptorFaults.{IsBeginning, GoesWrong, HasFault}
 use Rattle.mvm_base.specs.declared.descriptor.DescFault.{DescFault}
 use Rattle.mvm_base.specs.declared.descriptor.DescFault.TheVariants.{BadLetter, Open, Float}
 

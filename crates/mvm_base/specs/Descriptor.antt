@@ -1,6 +1,6 @@
 -- Descriptors (JVM Specification 4.3.2 and 4.3.3): how a shape is spelled, and how a reader finds the shape or the fault. What the faults
 -- mean stands in DescriptorFaults.
-use Rattle.std.specs.Prelude.{◌≡◌, ℕ, zero, suc, ◌+◌, ◌<◌, List, [], ◌∷◌, ◌++◌, length, drop, Bool, true, false, IsTrue, not, nat_lt, ◌&&◌, ◌||◌, ◌==◌, if◌then◌else◌, flat_map, replicate, sum_by, All, IfSome, Option, Some, None, Result, Ok, Err}
+use Rattle.std.specs.Prelude.{ℕ, zero, suc, ◌+◌, ◌<◌, List, [], ◌∷◌, ◌++◌, length, drop, Bool, true, false, IsTrue, nat_lt, ◌&&◌, ◌||◌, ◌==◌, if◌then◌else◌, flat_map, replicate, sum_by, All, IfSome, Option, Some, None, Result, Ok, Err}
 use Rattle.mvm_base.specs.ClassName.{is_binary_name}
 use Rattle.mvm_base.specs.Place.{Place}
 use Rattle.mvm_base.specs.Answers.{◌>>=◌}
@@ -9,7 +9,7 @@ use Rattle.mvm_base.specs.declared.descriptor.Base.TheVariants.{Boolean, Byte, C
 use Rattle.mvm_base.specs.declared.descriptor.FieldShape.{FieldShape}
 use Rattle.mvm_base.specs.declared.descriptor.MethodShape.{MethodShape}
 use Rattle.mvm_base.specs.declared.descriptor.DescFault.{DescFault}
-use Rattle.mvm_base.specs.declared.descriptor.DescFault.TheVariants.{Empty, BadLetter, Open, Trailing, Float, OutOfMemory}
+use Rattle.mvm_base.specs.declared.descriptor.DescFault.TheVariants.{Empty, BadLetter, Open, Trailing, Float}
 
 -- ---- how a shape is spelled
 

@@ -1,8 +1,7 @@
-use Rattle.std.proofs.Common.{◌≡◌, ◌≢◌, ◌-◌, ◌+◌, ℕ, List, Err, length, sym, ap, subst}
+use Rattle.std.proofs.Common.{◌≡◌, ◌-◌, ◌+◌, ℕ, List, Err, length, sym, ap, subst}
 use Rattle.mvm_base.specs.Place.{Place}
 use Rattle.mvm_base.specs.Descriptor.{params_in}
 use Rattle.mvm_base.specs.declared.descriptor.FieldShape.{FieldShape}
-use Rattle.mvm_base.specs.declared.descriptor.DescFault.TheVariants.{OutOfMemory}
 use Rattle.mvm_base.proofs.Descriptors.{with_fields, params_end, params_go}
 use Rattle.mvm_base.proofs.descriptor.read_params.Goals as goal
 
