@@ -116,6 +116,7 @@ times-cut (suc n) F e f = record {
         let c = all xs w.0 rest (at + length u) (subst (λ (t : List ℕ). spells_times F n xs (at + length u) t) w.2 two) some in
         let l = ap length w.1 ∙ length-append u w.0 in
         (c.0, omega (arith, c.1), omega (arith, c.2, l), rw (w.1, a, c.3) refl)
+
     within : (xs : List _) (text rest : List ℕ) (at : ℕ) → spells_times F (suc n) xs at (text ++ rest) → rest ≢ []
         → ((ys : List _) (t more : List ℕ) (place : ℕ) → spells_times F n ys place (t ++ more) → more ≢ [] → IsCut place t (read_times F n (record { at = place; rest = t })))
         → IsCut at text (read_times F (suc n) (record { at = at; rest = text }))

@@ -11,7 +11,7 @@ use Rattle.mvm_layout.specs.Text.{decoded_text}
 use Rattle.mvm_layout.specs.Entries.{second, modified_utf8, text, index_of, indices_of, constant, reference, is_wide, tagged, item, takes_two, entry, items, pool}
 use Rattle.mvm_layout.specs.Layout.{content, attribute_of, attribute, attributes, member_of, member, members, interfaces, magic, major, body, info_of, layout, ended, laid, row_of, row, rows, instructions, code_of, code, read_whole, IsCode, code_laid, code_in}
 use Rattle.mvm_layout.specs.declared.fault.ClassFault.{ClassFault}
-use Rattle.mvm_layout.specs.declared.fault.ClassFault.TheVariants.{Pool, Trailing, OutOfMemory}
+use Rattle.mvm_layout.specs.declared.fault.ClassFault.TheVariants.{Pool, OutOfMemory}
 use Rattle.mvm_layout.specs.declared.info.ClassInfo.{ClassInfo}
 use Rattle.mvm_layout.specs.declared.info.CodeInfo.{CodeInfo}
 use Rattle.mvm_layout.specs.declared.parts.Item.{Item}
@@ -182,7 +182,7 @@ none_left (x ∷ xs) h = let l : length (x ∷ xs) ≡ 0 = grind (arith, nat_tes
 ended-sound : {A : Type 0} (F : Format A) (p : Place) (x : A) → Exact F → (F.read p >>= ended) ≡ Ok x → F.spells x p.at p.rest
 ended-sound F p x f e =
     let a = bind_ok (F.read p) ended x e in
-    let k = kept_ok (if_passing (length a.0.1.rest == 0) a.0.0) (Trailing a.0.1.at) x a.2 in
+    let k = kept_ok (if_passing (length a.0.1.rest == 0) a.0.0) _ x a.2 in
     let b = passing_ok (length a.0.1.rest == 0) a.0.0 x k in
     let s = f.sound p a.0.0 a.0.1 a.1 in
     let whole : p.rest ≡ s.text = s.front ∙ ap (λ (t : List ℕ). s.text ++ t) (none_left a.0.1.rest b.0) ∙ append-nil s.text in

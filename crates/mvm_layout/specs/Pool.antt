@@ -4,7 +4,7 @@ use Rattle.std.specs.Str.{bytes_eq}
 use Rattle.mvm_layout.specs.declared.parts.Item.{Item}
 use Rattle.mvm_layout.specs.declared.parts.Item.TheVariants.{Utf8, Integer, Long, Class, Str, Fieldref, Methodref, InterfaceMethodref, NameAndType}
 
--- the entry of an index, which is counted from 1
+-- The entry of an index, which is counted from 1. Behind the last there is none; behind a long or a double stands its upper one.
 abbrev pub entry : List Item → ℕ → Option Item
 entry pool zero = None
 entry pool (suc n) = slice_get pool n
@@ -41,7 +41,7 @@ abbrev pub is_long : Option Item → Bool
 is_long (Some (Long n)) = true
 is_long _ = false
 
--- what ldc pushes in one slot, floats left out: an int, a string or a class (5.1)
+-- what ldc pushes here (6.5): an int, a string or a class; floats, method types and method handles are left out
 abbrev pub is_loadable : Option Item → Bool
 is_loadable (Some (Integer n)) = true
 is_loadable (Some (Str text)) = true
@@ -76,6 +76,7 @@ abbrev pub is_text : List ℕ → Option (List ℕ) → Bool
 is_text wanted (Some found) = bytes_eq found wanted
 is_text wanted None = false
 
+-- of a field or a method: the indices of its class, and of its name and type
 abbrev pub member_of : Option Item → Option (ℕ × ℕ)
 member_of (Some (Fieldref class member)) = Some (class, member)
 member_of (Some (Methodref class member)) = Some (class, member)

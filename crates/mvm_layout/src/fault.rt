@@ -15,8 +15,9 @@ pub enum ClassFault {
     Truncated(u32),
     /// At this place a byte stands behind the end of the class file.
     Trailing(u32),
-    /// The entry of this index of the constant pool is none that is known, or has an index that names no entry of the
-    /// kind that it should (4.4). It is 0 where the count of the pool is 0.
+    /// The entry of this index of the constant pool can't stand there (4.4): its tag is none that is known, its text is
+    /// no modified UTF-8, it is a long or a double at the last index, or an index in it names no entry of the kind that
+    /// it should. It is 0 where the count of the pool is 0.
     Pool(u16),
     /// What stands at this place can't stand in a class file (4.2, 4.3, 4.5 to 4.7).
     Shape(u32),

@@ -4,10 +4,10 @@ ghost use Rattle.mvm_base.specs.Answers.{GivesUnless};
 ghost use Rattle.mvm_layout.specs.Format.{Format, number, times};
 ghost use Rattle.mvm_layout.specs.Layout.{content, attribute, attributes, member, members, interfaces, magic, major, layout};
 
+use crate::entries::pool;
 use crate::fault::ClassFault;
 use crate::info::{AttributeInfo, ClassInfo, MemberInfo};
 use crate::numbers::{run, u2, u4};
-use crate::entries::pool;
 use mvm_base::{Cursor, List};
 use std::alloc::Global;
 

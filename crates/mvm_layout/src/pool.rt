@@ -1,4 +1,6 @@
-//! The constant pool by index (JVM Specification 4.4). No call takes memory.
+//! The constant pool by index (JVM Specification 4.4): which kind of entry stands there, and what it leads to. An index is
+//! counted from 1, as in a file; 0, and an index behind the last, have no entry. No call takes memory, and none fails: `None`
+//! or `false` is the answer where no entry of the kind stands.
 ghost use Rattle.std.specs.Prelude.{◌≡◌};
 ghost use Rattle.std.specs.Option.{option_copied};
 ghost use Rattle.std.specs.Str.{bytes_eq};
@@ -7,7 +9,7 @@ ghost use Rattle.mvm_layout.specs.Pool.{entry, text, class_name, is_text, is_utf
 use crate::parts::Item;
 use mvm_base::{List, Name};
 
-/// The entry of an index, which is counted from 1 (JVM Specification 4.1).
+/// The entry of an index, which is counted from 1 (4.1). The second index of a long or a double has [`Item::Upper`].
 pub fn entry(pool: &List<Item>, index: u16) -> Option<&Item>
     ensures { option_copied result ≡ entry pool.now index }
 {
@@ -17,7 +19,7 @@ pub fn entry(pool: &List<Item>, index: u16) -> Option<&Item>
     pool.get(usize::from(index) - 1)
 }
 
-/// The text of an index (4.4.7).
+/// The text of an index, where a text stands there (4.4.7).
 pub fn text(pool: &List<Item>, index: u16) -> Option<&Name>
     ensures { option_copied result ≡ text pool.now index }
 {
@@ -27,7 +29,8 @@ pub fn text(pool: &List<Item>, index: u16) -> Option<&Name>
     }
 }
 
-/// The name of the class of an index (4.4.1).
+/// The name of the class of an index, where a class stands there, and a text at the index of its name (4.4.1). The name of
+/// an array class is its descriptor.
 pub fn class_name(pool: &List<Item>, index: u16) -> Option<&Name>
     ensures { option_copied result ≡ class_name pool.now index }
 {
@@ -37,7 +40,7 @@ pub fn class_name(pool: &List<Item>, index: u16) -> Option<&Name>
     }
 }
 
-/// Whether units are these letters. It looks at no unit where the lengths differ.
+/// Whether the units are these letters, one unit for each byte. It looks at no unit where the lengths differ.
 pub fn same_text(units: &[u16], wanted: &[u8]) -> bool
     ensures { result ≡ bytes_eq units.now wanted.now }
 {
@@ -52,7 +55,7 @@ pub fn same_text(units: &[u16], wanted: &[u8]) -> bool
     true
 }
 
-/// Whether an index has a text, and it is this one.
+/// Whether an index has a text, and it is this one, one unit for each byte (4.4.7).
 pub fn is_text(pool: &List<Item>, index: u16, wanted: &[u8]) -> bool
     ensures { result ≡ is_text wanted.now (text pool.now index) }
 {
@@ -62,7 +65,7 @@ pub fn is_text(pool: &List<Item>, index: u16, wanted: &[u8]) -> bool
     }
 }
 
-/// Whether an index has a class, and this is its name.
+/// Whether an index has a class, and this is its name, one unit for each byte (4.4.1).
 pub fn is_class_named(pool: &List<Item>, index: u16, wanted: &[u8]) -> bool
     ensures { result ≡ is_text wanted.now (class_name pool.now index) }
 {
@@ -72,7 +75,7 @@ pub fn is_class_named(pool: &List<Item>, index: u16, wanted: &[u8]) -> bool
     }
 }
 
-/// Of the field or method of an index: the indices of its class, and of its name and type (4.4.2).
+/// Of the field or the method of an index: the index of its class, and the index of its name and type (4.4.2).
 pub fn member(pool: &List<Item>, index: u16) -> Option<(u16, u16)>
     ensures { result ≡ member pool.now index }
 {
@@ -84,7 +87,7 @@ pub fn member(pool: &List<Item>, index: u16) -> Option<(u16, u16)>
     }
 }
 
-/// Of the name and type of an index: the indices of the name, and of the descriptor (4.4.6).
+/// Of the name and type of an index: the index of the name, and the index of the descriptor (4.4.6).
 pub fn name_and_type(pool: &List<Item>, index: u16) -> Option<(u16, u16)>
     ensures { result ≡ name_and_type pool.now index }
 {
@@ -101,7 +104,7 @@ pub fn is_utf8(pool: &List<Item>, index: u16) -> bool
     matches!(entry(pool, index), Some(Item::Utf8(_)))
 }
 
-/// Whether an index has a class, an interface or an array class (4.4.1).
+/// Whether an index has a class; an interface or an array class is one, too (4.4.1).
 pub fn is_class(pool: &List<Item>, index: u16) -> bool
     ensures { result ≡ is_class (entry pool.now index) }
 {
@@ -143,7 +146,8 @@ pub fn is_name_and_type(pool: &List<Item>, index: u16) -> bool
     matches!(entry(pool, index), Some(Item::NameAndType(_, _)))
 }
 
-/// Whether an index has what `ldc` pushes in one slot, floats left out: an int, a string or a class (5.1).
+/// Whether an index has what `ldc` pushes here (6.5): an int, a string or a class. Floats, method types and method handles
+/// are left out of this machine's profile.
 pub fn is_loadable(pool: &List<Item>, index: u16) -> bool
     ensures { result ≡ is_loadable (entry pool.now index) }
 {

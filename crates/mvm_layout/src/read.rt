@@ -26,8 +26,8 @@ fn laid<'a>(alloc: Global, bytes: &'a [u8]) -> Result<ClassInfo<'a>, ClassFault>
     Ok(info)
 }
 
-/// What stands in the bytes of a class file, all of them, or the first fault of their layout (JVM Specification 4.1). It
-/// takes time and memory in proportion to the bytes.
+/// What stands in the bytes of a class file, all of them, or the first fault of their layout (JVM Specification 4.1). It is
+/// meant to take time and memory in proportion to the bytes; no clause says it.
 pub fn read_layout<'a>(alloc: Global, bytes: &'a [u8]) -> Result<ClassInfo<'a>, ClassFault>
     requires { length bytes.now < 2 ^ 32 }
     ensures exact { AnswersUnless ClassFault.OutOfMemory result (laid bytes.now) }
@@ -67,7 +67,8 @@ fn code_in<'a>(
     }
 }
 
-/// The code that the content of an attribute is, all of it, or `None` where it is none (JVM Specification 4.7.3).
+/// The code that the content of an attribute is, all of it, or `None` where it is none (JVM Specification 4.7.3). The name of
+/// the attribute is not looked at.
 pub fn read_code<'a>(
     alloc: Global,
     attribute: &AttributeInfo<'a>,

@@ -91,13 +91,6 @@ fn tells_where_bytes_are_cut(rt: HostRuntime) -> Result<(), Fail> {
             "cut at {end}"
         );
     }
-    for end in 0..MAIN.len() {
-        let is_cut = matches!(
-            fault_of(rt.alloc(), &MAIN[..end]),
-            Some(ClassFault::Truncated(_))
-        );
-        assert!(rt; is_cut, "cut at {end}");
-    }
     Ok(())
 }
 
@@ -121,12 +114,6 @@ fn tells_other_faults(rt: HostRuntime) -> Result<(), Fail> {
             "changed at {at}"
         );
     }
-    let mut longer = Vec::from_slice(rt.alloc(), &MAIN)?;
-    longer.push(0)?;
-    assert_eq!(rt;
-        fault_of(rt.alloc(), &longer),
-        Some(ClassFault::Trailing(180))
-    );
     Ok(())
 }
 
