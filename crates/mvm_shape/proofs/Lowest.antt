@@ -82,12 +82,15 @@ joined (Ok done) other A B low end start high p q l h m = record {
     lowest_of : (f g : ClassFault) → other ≡ Err f → A g ⊎ B g → rank f ≤ rank g
     lowest_of f g e (inl a) = absurd (p.none g refl a)
     lowest_of f g e (inr b) = q.lowest f g e b
+
     none_of : (f : ClassFault) → other ≡ Ok tt → A f ⊎ B f → ⊥
     none_of f e (inl a) = p.none f refl a
     none_of f e (inr b) = q.none f e b
+
     above_of : (f : ClassFault) → A f ⊎ B f → low ≤ rank f
     above_of f (inl a) = p.above f a
     above_of f (inr b) = let k = q.above f b in omega (arith, k, l)
+
     below_of : (f : ClassFault) → A f ⊎ B f → rank f < high
     below_of f (inl a) = let k = p.below f a in omega (arith, k, h)
     below_of f (inr b) = q.below f b
@@ -102,9 +105,11 @@ joined (Err fault) other A B low end start high p q l h m = record {
     lowest_of : (f g : ClassFault) → failed fault ≡ Err f → A g ⊎ B g → rank f ≤ rank g
     lowest_of f g e (inl a) = p.lowest f g e a
     lowest_of f g e (inr b) = let k = p.below f (p.told f e) in let n = q.above g b in omega (arith, k, n, m)
+
     above_of : (f : ClassFault) → A f ⊎ B f → low ≤ rank f
     above_of f (inl a) = p.above f a
     above_of f (inr b) = let k = q.above f b in omega (arith, k, l)
+
     below_of : (f : ClassFault) → A f ⊎ B f → rank f < high
     below_of f (inl a) = let k = p.below f a in omega (arith, k, h)
     below_of f (inr b) = q.below f b
@@ -302,8 +307,8 @@ header_lowest info =
     let is_right : Bool = is_superclass_of_interface info in
     let interfaces_rule : Result (Unit {0}) ClassFault = are_interfaces info in
     let order =
-        three (expect is_this (Shape (info.at + 2))) (expect (is_super && is_right) (Shape (info.at + 4))) interfaces_rule
-        ∙ ap (λ (rest : Result (Unit {0}) ClassFault). expect is_this (Shape (info.at + 2)) and_then rest) (split_first is_super is_right (Shape (info.at + 4)) interfaces_rule) in
+    three (expect is_this (Shape (info.at + 2))) (expect (is_super && is_right) (Shape (info.at + 4))) interfaces_rule
+    ∙ ap (λ (rest : Result (Unit {0}) ClassFault). expect is_this (Shape (info.at + 2)) and_then rest) (split_first is_super is_right (Shape (info.at + 4)) interfaces_rule) in
     let right = test_then is_right (Shape (info.at + 4)) _ _ (2 * (info.at + 8 + 2 * 0)) (2 * end) (each_interface info.pool info.at 0 info.interfaces) (omega arith) (omega arith) in
     let super = test_then is_super (Shape (info.at + 4)) _ _ (2 * (info.at + 4)) (2 * end) right (omega arith) (omega arith) in
     let this = test_then is_this (Shape (info.at + 2)) _ _ (2 * (info.at + 4)) (2 * end) super (omega arith) (omega arith) in
@@ -318,11 +323,11 @@ rules_lowest info a =
     let end = attributes_end a.attributes_from info.attributes a.to a.attributes in
     let attributes = each_attribute (named_attribute info.pool) (NameFault info.pool) (named_within info.pool) info.attributes a.attributes_from a.to a.attributes in
     let methods = joined _ _ _ _ (2 * a.methods_from) (2 * a.attributes_from) (2 * a.attributes_from) (2 * a.to)
-        (each_member (method_rule info.pool info.major (is_interface info.flags)) (MethodFault info.pool info.major (is_interface info.flags)) (method_lowest info.pool info.major (is_interface info.flags)) [] info.methods a.methods_from a.attributes_from a.methods)
-        attributes (omega (arith, methods_end)) (omega (arith, end)) (omega arith) in
+    (each_member (method_rule info.pool info.major (is_interface info.flags)) (MethodFault info.pool info.major (is_interface info.flags)) (method_lowest info.pool info.major (is_interface info.flags)) [] info.methods a.methods_from a.attributes_from a.methods)
+    attributes (omega (arith, methods_end)) (omega (arith, end)) (omega arith) in
     let fields = joined _ _ _ _ (2 * first) (2 * a.methods_from) (2 * a.methods_from) (2 * a.to)
-        (each_member (field_rule info.pool (is_interface info.flags)) (FieldFault info.pool (is_interface info.flags)) (field_lowest info.pool (is_interface info.flags)) [] info.fields first a.methods_from a.fields)
-        methods (omega (arith, fields_end)) (omega (arith, methods_end, end)) (omega arith) in
+    (each_member (field_rule info.pool (is_interface info.flags)) (FieldFault info.pool (is_interface info.flags)) (field_lowest info.pool (is_interface info.flags)) [] info.fields first a.methods_from a.fields)
+    methods (omega (arith, fields_end)) (omega (arith, methods_end, end)) (omega arith) in
     let fields_rule : Result (Unit {0}) ClassFault = each_after [] (field_rule info.pool (is_interface info.flags)) info.fields in
     let methods_rule : Result (Unit {0}) ClassFault = each_after [] (method_rule info.pool info.major (is_interface info.flags)) info.methods in
     let attributes_rule : Result (Unit {0}) ClassFault = each (named_attribute info.pool) info.attributes in

@@ -17,10 +17,10 @@ mod laws;
 mod links;
 mod member_lists;
 mod members;
-mod text_facts;
-mod text_numbers;
 #[cfg(test)]
 mod tests;
+mod text_facts;
+mod text_numbers;
 
 ghost use Rattle.std.specs.Prelude.{◌≡◌, IfOk};
 ghost use Rattle.mvm_base.specs.Answers.{AnswersUnless};
@@ -28,11 +28,11 @@ ghost use Rattle.mvm_layout.specs.Bounds.{IsWithinFile};
 ghost use Rattle.mvm_shape.specs.Shape.{shaped, rules, parts_of};
 
 use crate::attributes::test_names;
-use crate::text_facts::all_facts;
 use crate::header::test_header;
 use crate::kept_parts::{field_parts, method_parts};
 use crate::links::test_links;
 use crate::member_lists::{test_fields, test_methods};
+use crate::text_facts::all_facts;
 use crate::text_numbers::numbers;
 pub use laws::shape_law;
 use mvm_base::OutOfMemory;

@@ -7,8 +7,8 @@ ghost use Rattle.mvm_shape.specs.TextFacts.{all_facts};
 ghost use Rattle.mvm_shape.specs.TextNumbers.{AreNumbers};
 ghost use Rattle.mvm_layout.specs.Flags.{is_interface};
 
-use crate::text_facts::TextFacts;
 use crate::members::{test_field, test_method};
+use crate::text_facts::TextFacts;
 use crate::text_numbers::is_repeated;
 use mvm_layout::{ClassFault, ClassInfo};
 use std::alloc::Global;

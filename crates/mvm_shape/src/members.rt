@@ -11,8 +11,8 @@ ghost use Rattle.mvm_shape.specs.Members.{is_unqualified, is_method_name, holds,
 ghost use Rattle.mvm_shape.specs.TextFacts.{all_facts, facts_of, is_known_field, is_known_method, known_field, known_method, tested_as};
 
 use crate::attributes::{count_named, test_field_attributes, test_method_attributes};
-use crate::text_facts::{Descriptor, TextFacts, facts_at};
 use crate::faults::{shape_fault, unsupported_fault};
+use crate::text_facts::{Descriptor, TextFacts, facts_at};
 use mvm_base::List;
 use mvm_layout::flags::{
     FINAL, PRIVATE, PROTECTED, PUBLIC, SYNCHRONIZED, has_flag, has_no_code, is_interface, is_static,

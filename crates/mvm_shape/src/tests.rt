@@ -70,7 +70,10 @@ fn tests_places(rt: HostRuntime) -> Result<(), Fail> {
     assert_eq!(rt; fault_with(alloc, &[(70, 2)]), Some(ClassFault::Shape(69)));
     assert_eq!(rt; fault_with(alloc, &[(72, 1)]), Some(ClassFault::Shape(71)));
     assert_eq!(rt; fault_with(alloc, &[(88, 5)]), Some(ClassFault::Shape(79)));
-    assert_eq!(rt; fault_with(alloc, &[(42, 0x2f)]), Some(ClassFault::Shape(81)));
+    assert_eq!(rt;
+        fault_with(alloc, &[(42, 0x2f)]),
+        Some(ClassFault::Shape(81))
+    );
     assert_eq!(rt; fault_with(alloc, &[(84, 5)]), Some(ClassFault::Shape(83)));
     assert_eq!(rt;
         fault_with(alloc, &[(48, 0x46)]),
