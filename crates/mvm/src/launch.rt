@@ -28,15 +28,14 @@ fn asks_for_run(words: &[String]) -> bool
 }
 
 /// Reads a class file through.
+#[tactic(auto, using(crate::proofs::Faults::faulty))]
 fn check(alloc: Global, bytes: &[u8]) -> Result<(), ClassFault>
     requires { length bytes.now < 2 ^ 32 }
     ensures ok { OnOk result (IsClassFile bytes.now) }
     ensures err { IfErr result (λ fault. fault ≢ class_fault.OutOfMemory → IsFaulty bytes.now fault) }
 {
-    match read_uncounted(alloc, bytes) {
-        Ok(_) => Ok(()),
-        Err(fault) => Err(fault),
-    }
+    let _class = read_uncounted(alloc, bytes)?;
+    Ok(())
 }
 
 /// The class of the bytes, if they are a class file that the machine of this stage can run.

@@ -84,38 +84,11 @@ fn reports_isolates(rt: HostRuntime) -> Result<(), Fail> {
 }
 
 #[test]
-fn tells_refusals(rt: HostRuntime) -> Result<(), Fail> {
-    let told = [
-        (
-            Refusal::Usage,
-            "usage: mvm run [--workers N] [--quantum Q] [--statics] | asm | dump | gen N",
-        ),
-        (Refusal::ReadFault, "read failed"),
-        (Refusal::InputTooLong, "input too long"),
-        (Refusal::Class(ClassFault::Magic), "class: magic"),
-        (Refusal::Class(ClassFault::Version(53)), "class: version 53"),
-        (
-            Refusal::Class(ClassFault::Truncated(0)),
-            "class: truncated 0",
-        ),
-        (
-            Refusal::Class(ClassFault::Trailing(180)),
-            "class: trailing 180",
-        ),
-        (Refusal::Class(ClassFault::Pool(13)), "class: pool 13"),
-        (
-            Refusal::Class(ClassFault::Shape(4294967295)),
-            "class: shape 4294967295",
-        ),
-        (
-            Refusal::Class(ClassFault::Unsupported(0)),
-            "class: unsupported 0",
-        ),
-        (Refusal::WriteFault(16), "write failed after 16 bytes"),
-    ];
-    for (refusal, want) in told {
-        let text = refusal_text(rt.alloc(), &refusal).map_err(|_| AllocError)?;
-        assert_eq!(rt; text.as_str(), want);
-    }
+fn tells_a_refusal(rt: HostRuntime) -> Result<(), Fail> {
+    let text = refusal_text(rt.alloc(), &Refusal::WriteFault(16)).map_err(|_| AllocError)?;
+    assert_eq!(rt; text.as_str(), "write failed after 16 bytes");
+    let fault = Refusal::Class(ClassFault::Shape(4294967295));
+    let text = refusal_text(rt.alloc(), &fault).map_err(|_| AllocError)?;
+    assert_eq!(rt; text.as_str(), "class: shape 4294967295");
     Ok(())
 }

@@ -31,6 +31,68 @@ const REPORT: &str =
 const VERIFY_ERROR: &str =
     "isolate 0 Main\nend exit 1\nuncaught 0 java/lang/VerifyError\noutput 0\ndone 1\n";
 
+// How many bytes a sink takes in a call, where it takes all.
+const ALL: usize = usize::MAX;
+
+// A place of the class and the byte that is put there; the number of the read that fails, how many bytes the sink takes in a
+// call, and the number of the write that fails; then the status, the refusal, and what the sink took.
+const ROWS: [(
+    usize,
+    u8,
+    Option<u64>,
+    usize,
+    Option<u64>,
+    u8,
+    Option<Refusal>,
+    &str,
+); 9] = [
+    (0, 0xca, None, ALL, None, 0, None, REPORT),
+    (148, 0x01, None, ALL, None, 1, None, VERIFY_ERROR),
+    (
+        150,
+        0x01,
+        None,
+        ALL,
+        None,
+        4,
+        Some(Refusal::Class(ClassFault::Unsupported(0))),
+        "",
+    ),
+    (
+        3,
+        0xbf,
+        None,
+        ALL,
+        None,
+        4,
+        Some(Refusal::Class(ClassFault::Magic)),
+        "",
+    ),
+    (
+        92,
+        0x01,
+        None,
+        ALL,
+        None,
+        4,
+        Some(Refusal::Class(ClassFault::Pool(9))),
+        "",
+    ),
+    (0, 0xca, Some(0), ALL, None, 3, Some(Refusal::ReadFault), ""),
+    (
+        0,
+        0xca,
+        None,
+        16,
+        Some(1),
+        5,
+        Some(Refusal::WriteFault(16)),
+        "isolate 0 Main\ne",
+    ),
+    (0, 0xca, None, 0, None, 5, Some(Refusal::WriteFault(0)), ""),
+    (0, 0xca, None, 1, None, 0, None, REPORT),
+];
+
 // The class with one byte changed.
 fn main_with(alloc: Global, place: usize, byte: u8) -> Result<List<u8>, AllocError> {
     let mut bytes = List::from_slice(alloc, &MAIN)?;
@@ -38,6 +100,15 @@ fn main_with(alloc: Global, place: usize, byte: u8) -> Result<List<u8>, AllocErr
         bytes.set(place, byte);
     }
     Ok(bytes)
+}
+
+// A list of the number, if there is one.
+fn numbers(alloc: Global, number: Option<u64>) -> Result<List<u64>, AllocError> {
+    let mut numbers = List::new(alloc);
+    if let Some(number) = number {
+        numbers.push(number)?;
+    }
+    Ok(numbers)
 }
 
 // What a call answers, with what the sink took.
@@ -48,19 +119,20 @@ struct Answer {
     taken: List<u8>,
 }
 
-// A call over these bytes, of whose reads and writes those of these numbers fail, into a sink that takes so many bytes a call.
+// A call with the word `run` over these bytes, of whose reads and writes those of these numbers fail, into a sink that takes so
+// many bytes a call.
 fn call<R: Threads + Sync>(
     rt: &R,
     alloc: Global,
-    words: &[String],
     bytes: List<u8>,
-    failing_reads: &[u64],
+    failing_read: Option<u64>,
     most: usize,
-    failing_writes: &[u64],
+    failing_write: Option<u64>,
 ) -> Result<Answer, AllocError> {
-    let mut source = MemorySource::new(bytes, List::from_slice(alloc, failing_reads)?);
+    let words = [String::from_str(alloc, "run")?];
+    let mut source = MemorySource::new(bytes, numbers(alloc, failing_read)?);
     let mut store = MemoryStore::new(List::new(alloc), List::new(alloc));
-    let mut sink = MemorySink::new(alloc, most, List::from_slice(alloc, failing_writes)?);
+    let mut sink = MemorySink::new(alloc, most, numbers(alloc, failing_write)?);
     let ended = launch(
         rt,
         alloc,
@@ -84,27 +156,15 @@ fn refusal_of(ended: &Ended) -> Option<Refusal> {
     }
 }
 
-// The report of a run of the class with one byte changed.
-fn report_with<R: Threads + Sync>(
-    rt: &R,
-    alloc: Global,
-    place: usize,
-    byte: u8,
-) -> Result<Answer, AllocError> {
-    let words = [String::from_str(alloc, "run")?];
-    let bytes = main_with(alloc, place, byte)?;
-    call(rt, alloc, &words, bytes, &[], usize::MAX, &[])
-}
-
 #[test]
-fn runs(rt: HostRuntime) -> Result<(), Fail> {
-    let whole = report_with(&rt, rt.alloc(), 0, 0xca)?;
-    assert_eq!(rt; whole.taken.as_slice(), REPORT.as_bytes());
-    assert_eq!(rt; (whole.status, whole.refusal), (0, None));
-
-    let max_stack_1 = report_with(&rt, rt.alloc(), 148, 0x01)?;
-    assert_eq!(rt; max_stack_1.taken.as_slice(), VERIFY_ERROR.as_bytes());
-    assert_eq!(rt; (max_stack_1.status, max_stack_1.refusal), (1, None));
+fn answers_the_rows(rt: HostRuntime) -> Result<(), Fail> {
+    for (place, byte, failing_read, most, failing_write, status, refusal, taken) in ROWS {
+        let bytes = main_with(rt.alloc(), place, byte)?;
+        let answer = call(&rt, rt.alloc(), bytes, failing_read, most, failing_write)?;
+        assert_eq!(rt; answer.taken.as_slice(), taken.as_bytes());
+        assert_eq!(rt; answer.status, status);
+        assert_eq!(rt; answer.refusal, refusal);
+    }
     Ok(())
 }
 
@@ -118,106 +178,20 @@ fn runs_into_the_limit_of_output(rt: HostRuntime) -> Result<(), Fail> {
         endless.push_str("0\n")?;
     }
     endless.push_str("done 1\n")?;
-    let iinc_by_0 = report_with(&rt, rt.alloc(), 169, 0x00)?;
-    assert_eq!(rt; iinc_by_0.taken.as_slice(), endless.as_bytes());
-    assert_eq!(rt; (iinc_by_0.status, iinc_by_0.refusal), (1, None));
+    let iinc_by_0 = main_with(rt.alloc(), 169, 0x00)?;
+    let answer = call(&rt, rt.alloc(), iinc_by_0, None, ALL, None)?;
+    assert_eq!(rt; answer.taken.as_slice(), endless.as_bytes());
+    assert_eq!(rt; answer.status, 1);
     Ok(())
 }
 
-// Whether a call over these bytes is refused so, with nothing written.
-fn is_refused<R: Threads + Sync>(
-    rt: &R,
-    alloc: Global,
-    bytes: List<u8>,
-    refusal: Refusal,
-    status: u8,
-) -> Result<bool, AllocError> {
-    let words = [String::from_str(alloc, "run")?];
-    let answer = call(rt, alloc, &words, bytes, &[], usize::MAX, &[])?;
-    Ok(answer.refusal == Some(refusal) && answer.status == status && answer.taken.is_empty())
-}
-
 #[test]
-fn refuses_bytes(rt: HostRuntime) -> Result<(), Fail> {
-    let alloc = rt.alloc();
-    let unsupported = Refusal::Class(ClassFault::Unsupported(0));
-    let magic = Refusal::Class(ClassFault::Magic);
-    let max_locals_1 = main_with(alloc, 150, 0x01)?;
-    assert!(rt; is_refused(&rt, alloc, max_locals_1, unsupported, 4)?);
+fn refuses_what_is_empty_or_too_long(rt: HostRuntime) -> Result<(), Fail> {
+    let empty = call(&rt, rt.alloc(), List::new(rt.alloc()), None, ALL, None)?;
     let truncated = Refusal::Class(ClassFault::Truncated(0));
-    assert!(rt; is_refused(&rt, alloc, List::new(alloc), truncated, 4)?);
-    let zeros = List::from_slice(alloc, &[0; 4])?;
-    assert!(rt; is_refused(&rt, alloc, zeros, magic, 4)?);
-    let long = List::from_vec(vec![in alloc; 0; 1_048_577]?);
-    assert!(rt; is_refused(&rt, alloc, long, Refusal::InputTooLong, 4)?);
-    Ok(())
-}
-
-#[test]
-fn refuses_failed_reads(rt: HostRuntime) -> Result<(), Fail> {
-    let words = [String::from_str(rt.alloc(), "run")?];
-    let main = main_with(rt.alloc(), 0, 0xca)?;
-    let failed = call(&rt, rt.alloc(), &words, main, &[0], usize::MAX, &[])?;
-    assert_eq!(rt;
-        (failed.status, failed.refusal),
-        (3, Some(Refusal::ReadFault))
-    );
-    assert!(rt; failed.taken.is_empty());
-    Ok(())
-}
-
-// Whether a call with these words is a usage refusal, with nothing written.
-fn is_usage<R: Threads + Sync>(
-    rt: &R,
-    alloc: Global,
-    words: &[String],
-) -> Result<bool, AllocError> {
-    let main = main_with(alloc, 0, 0xca)?;
-    let answer = call(rt, alloc, words, main, &[], usize::MAX, &[])?;
-    Ok(answer.refusal == Some(Refusal::Usage) && answer.status == 2 && answer.taken.is_empty())
-}
-
-#[test]
-fn refuses_words(rt: HostRuntime) -> Result<(), Fail> {
-    let other = [String::from_str(rt.alloc(), "walk")?];
-    let two = [
-        String::from_str(rt.alloc(), "run")?,
-        String::from_str(rt.alloc(), "--statics")?,
-    ];
-    assert!(rt; is_usage(&rt, rt.alloc(), &[])?);
-    assert!(rt; is_usage(&rt, rt.alloc(), &other)?);
-    assert!(rt; is_usage(&rt, rt.alloc(), &two)?);
-    Ok(())
-}
-
-// A run of the class into a sink that takes so many bytes a call and fails at these calls.
-fn written<R: Threads + Sync>(
-    rt: &R,
-    alloc: Global,
-    most: usize,
-    failing: &[u64],
-) -> Result<Answer, AllocError> {
-    let words = [String::from_str(alloc, "run")?];
-    let main = main_with(alloc, 0, 0xca)?;
-    call(rt, alloc, &words, main, &[], most, failing)
-}
-
-#[test]
-fn stops_where_the_sink_fails(rt: HostRuntime) -> Result<(), Fail> {
-    let second = written(&rt, rt.alloc(), 16, &[1])?;
-    assert_eq!(rt;
-        (second.status, second.refusal),
-        (5, Some(Refusal::WriteFault(16)))
-    );
-    assert_eq!(rt; second.taken.as_slice(), b"isolate 0 Main\ne".as_slice());
-    let nothing = written(&rt, rt.alloc(), 0, &[])?;
-    assert_eq!(rt;
-        (nothing.status, nothing.refusal),
-        (5, Some(Refusal::WriteFault(0)))
-    );
-    assert!(rt; nothing.taken.is_empty());
-    let bytewise = written(&rt, rt.alloc(), 1, &[])?;
-    assert_eq!(rt; (bytewise.status, bytewise.refusal), (0, None));
-    assert_eq!(rt; bytewise.taken.as_slice(), REPORT.as_bytes());
+    assert_eq!(rt; empty.refusal, Some(truncated));
+    let long = List::from_vec(vec![in rt.alloc(); 0; 1_048_577]?);
+    let long = call(&rt, rt.alloc(), long, None, ALL, None)?;
+    assert_eq!(rt; long.refusal, Some(Refusal::InputTooLong));
     Ok(())
 }

@@ -1,36 +1,53 @@
-//! `mvm_inspect`: reads a class file from standard input, checks its code, and tells on standard output what is wrong with it,
-//! or `Ok`. It is a tool for comparing and measuring; `mvm` does not use it.
+//! Program: `mvm_inspect`, a tool for comparing and measuring, which `mvm` does not use. It reads a class file from standard
+//! input, checks its code, and tells on standard output what is wrong with it, or `Ok`. What it finds is said at
+//! [`inspect::inspect`].
 //!
-//! A number as its one word is how many times over it does so; it tells the last finding. The status is 0 where nothing is
-//! wrong, 1 where something is, 2 where the words are no such number or the input can't be read.
+//! A number from 1 to 4,294,967,295 as its one word is how many times over it does so; it tells the last finding.
 #![tactic(auto)]
 
 ghost use Rattle.std.specs.Prelude.{◌<◌, ◌^◌, length};
+ghost use Rattle.mvm_inspect.specs.Finding.{Finds};
 
 mod inspect;
 #[cfg(test)]
-mod rows;
+mod worked_rows;
 
 use inspect::{Finding, inspect};
 use mvm_base::List;
-use mvm_outside::{ReadSource, read_all};
+use mvm_outside::{MOST_FILE_BYTES, ReadRefusal, ReadSource, read_all};
 use std::process::ExitCode;
 use std::{env, io};
 
-/// How many bytes the input may have.
-const MOST_INPUT_BYTES: usize = 1_048_576;
+/// The status where something is wrong with the class file.
+const FAULT: u8 = 1;
+
+/// The status where the words are no such number, the input can't be read, or the finding can't be told.
+const REFUSED: u8 = 2;
+
+/// The status where memory ran out.
+const OUT_OF_MEMORY: u8 = 6;
 
 fn main(rt: HostRuntime) -> ExitCode {
-    let Ok(Some(times)) = times_of(&rt) else {
-        let _ = eprintln!(rt; "usage: mvm_inspect [TIMES]");
-        return ExitCode::from(2);
+    let times = match times_of(&rt) {
+        Ok(Some(times)) => times,
+        Err(error) if error.kind() == io::ErrorKind::OutOfMemory => {
+            return complain(&rt, "out of memory", OUT_OF_MEMORY);
+        }
+        Ok(None) | Err(_) => return complain(&rt, "usage: mvm_inspect [TIMES]", REFUSED),
     };
     let mut source = ReadSource::new(rt.stdin());
-    let Ok(bytes) = read_all(rt.alloc(), &mut source, MOST_INPUT_BYTES) else {
-        let _ = eprintln!(rt; "the input can't be read");
-        return ExitCode::from(2);
-    };
-    tell(&rt, &bytes, times)
+    match read_all(rt.alloc(), &mut source, MOST_FILE_BYTES) {
+        Ok(bytes) => tell(&rt, inspect_times(&rt, &bytes, times)),
+        Err(ReadRefusal::ReadFault) => complain(&rt, "read failed", REFUSED),
+        Err(ReadRefusal::InputTooLong) => complain(&rt, "input too long", REFUSED),
+        Err(ReadRefusal::OutOfMemory) => complain(&rt, "out of memory", OUT_OF_MEMORY),
+    }
+}
+
+/// Tells on standard error why there is no finding.
+fn complain(rt: &HostRuntime, why: &str, status: u8) -> ExitCode {
+    let _ = eprintln!(rt; "{why}");
+    ExitCode::from(status)
 }
 
 /// How many times over the input is to be looked at, if the words say that.
@@ -41,25 +58,36 @@ fn times_of(rt: &HostRuntime) -> io::Result<Option<u32>> {
     }
     match words.as_slice() {
         [] => Ok(Some(1)),
-        [word] => Ok(word.parse::<u32>().ok()),
+        [word] => match word.parse::<u32>() {
+            Ok(0) | Err(_) => Ok(None),
+            Ok(times) => Ok(Some(times)),
+        },
         _ => Ok(None),
     }
 }
 
-fn tell(rt: &HostRuntime, bytes: &List<u8>, times: u32) -> ExitCode
+/// The last finding of so many, and of one at least.
+fn inspect_times(rt: &HostRuntime, bytes: &List<u8>, times: u32) -> Finding
     requires { length bytes.now < 2 ^ 32 }
+    ensures { Finds bytes.now result }
 {
-    let mut finding = Finding::Sound;
-    for i in 0..times {
+    let mut finding = inspect(rt.alloc(), bytes.as_slice());
+    for _ in 1..times {
         finding = inspect(rt.alloc(), bytes.as_slice());
     }
-    let told = match finding {
-        Finding::Sound => println!(rt; "Ok"),
-        Finding::Class(fault) => println!(rt; "{fault:?}"),
-        Finding::Code(fault) => println!(rt; "{fault:?}"),
+    finding
+}
+
+/// Tells the finding on standard output, and want of memory on standard error.
+fn tell(rt: &HostRuntime, finding: Finding) -> ExitCode {
+    let (told, status) = match finding {
+        Finding::Sound => (println!(rt; "Ok"), 0),
+        Finding::Class(fault) => (println!(rt; "{fault:?}"), FAULT),
+        Finding::Code(fault) => (println!(rt; "{fault:?}"), FAULT),
+        Finding::OutOfMemory => return complain(rt, "out of memory", OUT_OF_MEMORY),
     };
-    match (told, finding) {
-        (Ok(()), Finding::Sound) => ExitCode::SUCCESS,
-        _ => ExitCode::from(1),
+    match told {
+        Ok(()) => ExitCode::from(status),
+        Err(_) => ExitCode::from(REFUSED),
     }
 }

@@ -78,6 +78,26 @@ fn changed(at: usize, bytes: [u8; 4], count: usize) -> [u8; 180]
     file
 }
 
+/// Majors, flags of `main` where the class is an interface with code in it, and what is wrong with the file then (4.6).
+const INTERFACE_METHODS: [(u8, u8, Finding); 8] = [
+    (52, 0x09, Finding::Sound),
+    (52, 0x0a, Finding::Sound),
+    (52, 0x08, Finding::Class(ClassFault::Shape(133))),
+    (52, 0x0b, Finding::Class(ClassFault::Shape(133))),
+    (52, 0x0d, Finding::Class(ClassFault::Shape(133))),
+    (52, 0x19, Finding::Class(ClassFault::Shape(133))),
+    (52, 0x29, Finding::Class(ClassFault::Shape(133))),
+    (51, 0x09, Finding::Class(ClassFault::Unsupported(133))),
+];
+
+/// The file with other flags of its one method, as an abstract public interface.
+fn interface(major: u8, flags: u8) -> [u8; 180] {
+    let mut file = changed(121, [0x06, 0x01, 0, 0], 2);
+    file[7] = major;
+    file[134] = flags;
+    file
+}
+
 #[test]
 fn cut_files_are_truncated(rt: HostRuntime) -> Result<(), Fail> {
     for (length, place) in CUTS {
@@ -86,18 +106,6 @@ fn cut_files_are_truncated(rt: HostRuntime) -> Result<(), Fail> {
         assert_eq!(rt;
             inspect(rt.alloc(), &MAIN[..length]),
             expected,
-            "cut to {length}"
-        );
-    }
-    Ok(())
-}
-
-#[test]
-fn every_cut_is_truncated(rt: HostRuntime) -> Result<(), Fail> {
-    for length in 0..MAIN.len() {
-        let finding = inspect(rt.alloc(), &MAIN[..length]);
-        assert!(rt;
-            matches!(finding, Finding::Class(ClassFault::Truncated(_))),
             "cut to {length}"
         );
     }
@@ -125,6 +133,15 @@ fn faults_of_the_code_are_found(rt: HostRuntime) -> Result<(), Fail> {
             kind,
         };
         assert_eq!(rt; finding, Finding::Code(fault), "changed at {place}");
+    }
+    Ok(())
+}
+
+#[test]
+fn methods_of_interfaces_with_code_have_their_flags(rt: HostRuntime) -> Result<(), Fail> {
+    for (major, flags, finding) in INTERFACE_METHODS {
+        let file = interface(major, flags);
+        assert_eq!(rt; inspect(rt.alloc(), &file), finding, "{major} {flags}");
     }
     Ok(())
 }
