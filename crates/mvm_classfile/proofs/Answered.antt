@@ -11,8 +11,8 @@ use Rattle.mvm_layout.proofs.Exactness.{bind_ok}
 use Rattle.mvm_layout.proofs.Layouts.{laid-sound, laid-complete}
 use Rattle.mvm_layout.proofs.Cuts.{laid-cut, laid-longer}
 use Rattle.std.specs.Prelude.{◌≢◌, ◌≤◌, [], ◌++◌}
-use Rattle.mvm_shape.specs.Lowest.{rank, IsWrong}
-use Rattle.mvm_shape.proofs.Lowest.{told, lowest, none}
+use Rattle.mvm_shape.specs.Lowest.{rank}
+use Rattle.mvm_shape.proofs.Lowest.{told, lowest}
 use Rattle.mvm_base.specs.Rules.{◌and_then◌}
 use Rattle.mvm_shape.specs.Shape.{linked, rules, parts_of, shaped}
 use Rattle.mvm_classfile.proofs.Rule.{both}

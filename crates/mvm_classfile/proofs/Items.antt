@@ -10,14 +10,14 @@ use Rattle.std.proofs.lemmas.Bool.{eqb-true, lt-ltb}
 use Rattle.std.proofs.lemmas.Bool.Decides.{nat_tests}
 use Rattle.mvm_base.specs.Endian.{big_bytes}
 use Rattle.mvm_base.specs.ModifiedUtf8.{spelled_all}
-use Rattle.mvm_layout.specs.Format.{Format, bytes, number, followed, mapped, choose, refused, if_passing, passing}
+use Rattle.mvm_layout.specs.Format.{Format, number, followed, mapped, choose, refused, if_passing, passing}
 use Rattle.mvm_layout.specs.Entries.{second, modified_utf8, text, index_of, indices_of, constant, reference, is_wide, tagged, item, takes_two, entry, items, pool}
 use Rattle.mvm_layout.specs.declared.fault.ClassFault.{ClassFault}
 use Rattle.mvm_layout.specs.declared.fault.ClassFault.TheVariants.{Pool}
 use Rattle.mvm_layout.specs.declared.parts.Item.{Item}
 use Rattle.mvm_layout.specs.declared.parts.Item.TheVariants.{Utf8, Integer, Float, Long, Double, Upper, Class, Str, Fieldref, Methodref, InterfaceMethodref, NameAndType, MethodHandle, MethodType, InvokeDynamic}
 use Rattle.mvm_classfile.specs.Writing.{u1, u2, u4, written_item, written_pool, fits_item}
-use Rattle.mvm_classfile.proofs.Plain.{Plain, number_lt, plain_u1, plain_u2, plain_u4, plain_u8, plain_bytes, plain_given, plain_followed, plain_mapped, plain_passing}
+use Rattle.mvm_classfile.proofs.Plain.{Plain, number_lt, plain_u1, plain_u2, plain_u4, plain_u8, plain_given, plain_followed, plain_mapped, plain_passing}
 
 -- what stands behind a tag
 record Tagged (tag : ℕ) (F : Format Item) : Type 0 where

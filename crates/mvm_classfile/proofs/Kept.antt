@@ -1,9 +1,8 @@
 -- What the parts of a class file keep, by the rules that what spells it keeps.
-use Rattle.std.proofs.Common.{◌≡◌, ℕ, ◌+◌, ◌*◌, ◌≤◌, Bool, true, false, not, ◌||◌, ◌&&◌, List, [], ◌∷◌, ◌++◌, length, Option, Some, None, Result, Ok, inl, inr, ◌⊎◌, refl, sym, ap, subst, ◌∙◌, append_assoc, arith}
+use Rattle.std.proofs.Common.{◌≡◌, ℕ, ◌+◌, ◌*◌, ◌≤◌, Bool, true, false, not, ◌||◌, ◌&&◌, List, [], ◌∷◌, ◌++◌, length, Option, Some, None, Result, inl, inr, ◌⊎◌, refl, sym, ap, subst, ◌∙◌, append_assoc, arith}
 use Rattle.std.specs.Prelude.{map, All, IfSome, IsTrue, is_some, ◌==◌}
 use Rattle.std.specs.List.{list_any}
 use Rattle.std.specs.Option.{IsSomeAnd}
-use Rattle.std.specs.Str.{bytes_eq}
 use Rattle.std.proofs.lemmas.Bool.{eqb-true, leb-true}
 use Rattle.std.proofs.lemmas.List.Elements.{All-nil, All-cons}
 use Rattle.std.proofs.lemmas.List.Kept.{AllPairs-cons}
@@ -25,7 +24,7 @@ use Rattle.mvm_layout.specs.declared.parts.Member.{Member}
 use Rattle.mvm_layout.specs.declared.parts.Parts.{Parts}
 use Rattle.mvm_shape.specs.Links.{is_linked}
 use Rattle.mvm_shape.specs.Members.{is_unqualified, is_method_name, holds, field_descriptor, method_descriptor, has_few_parameters, is_constant_of, same_text, is_same, is_repeated, field_rule, method_rule, field_part, method_part}
-use Rattle.mvm_shape.specs.Shape.{linked, names_object, has_superclass, are_interfaces, header, parts_of}
+use Rattle.mvm_shape.specs.Shape.{linked, has_superclass, are_interfaces, header, parts_of}
 use Rattle.mvm_classfile.specs.Kept.{IsLinked, IsClass, HasClasses, IsFieldDescriptor, IsClassField, IsMethodDescriptor, IsClassMethod, IsAlike, AreApart}
 use Rattle.mvm_classfile.specs.Reading.{IsClassFile}
 use Rattle.mvm_classfile.specs.Writing.{u2, Names, names_in, written_code}

@@ -22,7 +22,6 @@ use Rattle.mvm_layout.specs.Flags.{is_interface}
 use Rattle.mvm_shape.specs.Shape.{parts_of}
 use Rattle.mvm_classfile.specs.Reading.{IsClassFile}
 use Rattle.mvm_classfile.specs.Writing.{u2, u4, names_in, written_pool, written_member, written_members, written, fits_code, lists_fit, has_few_bytes, is_countable, fits, rebuilt}
-use Rattle.mvm_classfile.proofs.Plain.{counted_lt}
 use Rattle.mvm_classfile.proofs.Items.{pool_plain, PoolShort, pool_short}
 use Rattle.mvm_classfile.proofs.Pieces.{MemberFits, member_fits, counted_each, interfaces_plain, interfaces_lt, at_least_two}
 use Rattle.mvm_classfile.proofs.Rule.{kept, and_again}

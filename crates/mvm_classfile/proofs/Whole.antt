@@ -1,5 +1,5 @@
 -- What is written of a class file reads as the class file again.
-use Rattle.std.proofs.Common.{◌≡◌, ℕ, ◌+◌, ◌*◌, ◌<◌, ◌^◌, Bool, true, false, List, [], ◌∷◌, ◌++◌, length, Some, refl, sym, ap, subst, ◌∙◌, append_assoc, arith}
+use Rattle.std.proofs.Common.{◌≡◌, ℕ, ◌+◌, ◌*◌, ◌<◌, ◌^◌, List, [], ◌∷◌, ◌++◌, length, refl, sym, ap, subst, ◌∙◌, append_assoc, arith}
 use Rattle.mvm_base.proofs.Bytes.{left_bytes, right_bytes}
 use Rattle.mvm_base.specs.Bytes.{AreBytes}
 use Rattle.std.specs.Prelude.{map, codes}
@@ -7,7 +7,7 @@ use Rattle.std.specs.List.{flat_map}
 use Rattle.std.proofs.lemmas.List.{length-map}
 use Rattle.mvm_layout.specs.Format.{spells_times}
 use Rattle.mvm_layout.specs.Entries.{pool}
-use Rattle.mvm_layout.specs.Layout.{attribute, attributes, member, members, interfaces, magic, major, body, Body, info_of, layout}
+use Rattle.mvm_layout.specs.Layout.{member, members, interfaces, magic, major, body, Body, info_of, layout}
 use Rattle.mvm_layout.specs.declared.fault.ClassFault.TheVariants.{Shape}
 use Rattle.mvm_layout.specs.declared.parts.Item.{Item}
 use Rattle.mvm_layout.specs.declared.parts.Member.{Member}

@@ -1,5 +1,5 @@
 -- What every class file keeps (JVM Specification, chapter 4), said of its parts, so that no layer above asks for it again.
-use Rattle.std.specs.Prelude.{◌≡◌, ◌≤◌, ◌⊎◌, ℕ, ◌+◌, List, length, Bool, not, if◌then◌else◌, All, AllPairs, IsTrue, is_some, IfSome, None, Ok}
+use Rattle.std.specs.Prelude.{◌≡◌, ◌≤◌, ◌⊎◌, ℕ, ◌+◌, List, length, not, if◌then◌else◌, All, AllPairs, IsTrue, is_some, IfSome, None, Ok}
 use Rattle.std.specs.Option.{IsSomeAnd}
 use Rattle.mvm_base.specs.Descriptor.{IsField, IsMethod, spelled_field, spelled_method, field_of, method_of, slots}
 use Rattle.mvm_base.specs.declared.descriptor.FieldShape.{FieldShape}

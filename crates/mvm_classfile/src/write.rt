@@ -4,11 +4,11 @@ ghost use Rattle.mvm_classfile.specs.Reading.{Reads, IsClassFile};
 ghost use Rattle.mvm_classfile.specs.Writing.{u2, u4, written, rebuilt};
 
 use crate::class_file::ClassFile;
-use crate::entries::{attribute_names, push_pool};
 use crate::counts_fit::lists_fit;
+use crate::entries::{attribute_names, push_pool};
 use crate::members::push_members;
-use crate::write_numbers::{push_count, push_u2, push_u4};
 use crate::read::read_file;
+use crate::write_numbers::{push_count, push_u2, push_u4};
 use mvm_base::{List, OutOfMemory};
 use mvm_layout::{ClassFault, Parts};
 use std::alloc::{AllocError, Global};
