@@ -1,28 +1,31 @@
 -- What is read of a descriptor is spelled so, and what is spelled so is read.
 use Rattle.std.proofs.Common.{◌≡◌, ℕ, zero, suc, ◌+◌, ◌-◌, ◌<◌, Bool, true, false, not, ◌&&◌, ◌||◌, ◌==◌, cond, eqb, ltb, List, [], ◌∷◌, ◌++◌, length, replicate, IfOk, Option, Some, None, Result, Ok, Err, refl, sym, ap, subst, ◌∙◌, append_assoc, append-nil, length-append, arith}
+use Rattle.std.proofs.lemmas.Bool.{and_parts}
 use Rattle.std.proofs.lemmas.Bool.Decides.{nat_tests}
-use Rattle.mvm_base.specs.Letters.{Letters}
-use Rattle.mvm_base.specs.Descriptor.{spelled_base, spelled_field, has_parts, is_name_letter, IsBase, IsField, with_letter, is_misplaced, name_in, plain, object, plain_or, base_in, with_dims, field_in, ended, field_of, is_next, with_field, params_in, Faults, Parses}
-use Rattle.mvm_base.specs.Answers.{◌>>=◌}
+use Rattle.mvm_base.specs.Place.{Place}
+use Rattle.mvm_base.specs.Descriptor.{spelled_base, spelled_field, IsBase, IsField, with_letter, is_misplaced, name_in, plain, object, plain_or, base_in, with_dims, field_in, ended, field_of, is_next, with_field, params_in}
+use Rattle.mvm_base.specs.Answers.{◌>>=◌, AnswersUnless}
+use Rattle.mvm_base.specs.ClassName.{is_name_unit, is_binary_name}
+use Rattle.mvm_base.proofs.Names.{has_parts, parts_are}
 use Rattle.mvm_base.specs.declared.descriptor.Base.{Base}
 use Rattle.mvm_base.specs.declared.descriptor.Base.TheVariants.{Boolean, Byte, Char, Short, Int, Long, Object}
 use Rattle.mvm_base.specs.declared.descriptor.FieldShape.{FieldShape}
 use Rattle.mvm_base.specs.declared.descriptor.DescFault.{DescFault}
 use Rattle.mvm_base.specs.declared.descriptor.DescFault.TheVariants.{Empty, BadLetter, Open, Trailing, Float, OutOfMemory}
 
-abbrev pub with_front : List ℕ → Result (List ℕ × Letters) DescFault → Result (List ℕ × Letters) DescFault
+abbrev pub with_front : List ℕ → Result (List ℕ × Place) DescFault → Result (List ℕ × Place) DescFault
 with_front front (Ok x) = Ok (front ++ x.0, x.1)
 with_front front (Err fault) = Err fault
 
-abbrev pub with_fields : List FieldShape → Result (List FieldShape × Letters) DescFault → Result (List FieldShape × Letters) DescFault
+abbrev pub with_fields : List FieldShape → Result (List FieldShape × Place) DescFault → Result (List FieldShape × Place) DescFault
 with_fields front (Ok x) = Ok (front ++ x.0, x.1)
 with_fields front (Err fault) = Err fault
 
-pub front_none : (r : Result (List ℕ × Letters) DescFault) → with_front [] r ≡ r
+pub front_none : (r : Result (List ℕ × Place) DescFault) → with_front [] r ≡ r
 front_none (Ok x) = refl
 front_none (Err fault) = refl
 
-pub front_more : (front : List ℕ) (letter : ℕ) (r : Result (List ℕ × Letters) DescFault) → with_front front (with_letter letter r) ≡ with_front (front ++ letter ∷ []) r
+pub front_more : (front : List ℕ) (letter : ℕ) (r : Result (List ℕ × Place) DescFault) → with_front front (with_letter letter r) ≡ with_front (front ++ letter ∷ []) r
 front_more front letter (Ok x) = let e = append_assoc front (letter ∷ []) x.0 in cc
 front_more front letter (Err fault) = refl
 
@@ -32,18 +35,18 @@ pub record NameTakes (is_open : Bool) (text name rest : List ℕ) : Type 0 where
   pub parts : has_parts is_open name ≡ true
   pub front : text ≡ name ++ 59 ∷ rest
 
-with_letter_ok : (letter : ℕ) (r : Result (List ℕ × Letters) DescFault) (x : List ℕ × Letters) → with_letter letter r ≡ Ok x → (y : List ℕ) × (r ≡ Ok (y, x.1)) × (x.0 ≡ letter ∷ y)
-with_letter_ok letter (Ok z) x e = let k : (letter ∷ z.0, z.1) ≡ x = cc in (z.0, ap (λ (w : List ℕ × Letters). ok (z.0, w.1)) k, sym (ap (λ (w : List ℕ × Letters). w.0) k))
+with_letter_ok : (letter : ℕ) (r : Result (List ℕ × Place) DescFault) (x : List ℕ × Place) → with_letter letter r ≡ Ok x → (y : List ℕ) × (r ≡ Ok (y, x.1)) × (x.0 ≡ letter ∷ y)
+with_letter_ok letter (Ok z) x e = let k : (letter ∷ z.0, z.1) ≡ x = cc in (z.0, ap (λ (w : List ℕ × Place). ok (z.0, w.1)) k, sym (ap (λ (w : List ℕ × Place). w.0) k))
   where
-    ok : List ℕ × Letters → Result (List ℕ × Letters) DescFault
+    ok : List ℕ × Place → Result (List ℕ × Place) DescFault
     ok w = Ok w
 with_letter_ok letter (Err fault) x e = absurd cc
 
-misplaced_not : (is_open : Bool) (letter : ℕ) → is_misplaced is_open letter ≡ false → eqb letter 59 ≡ false → (cond (eqb letter 47) (not is_open) (is_name_letter letter)) ≡ true
+misplaced_not : (is_open : Bool) (letter : ℕ) → is_misplaced is_open letter ≡ false → eqb letter 59 ≡ false → (cond (eqb letter 47) (not is_open) (is_name_unit letter)) ≡ true
 misplaced_not true letter m s = grind (arith, nat_tests)
 misplaced_not false letter m s = grind (arith, nat_tests)
 
-parts_more : (is_open b : Bool) (letter : ℕ) (y : List ℕ) → cond b (not is_open) (is_name_letter letter) ≡ true → eqb letter 47 ≡ b → has_parts b y ≡ true → has_parts is_open (letter ∷ y) ≡ true
+parts_more : (is_open b : Bool) (letter : ℕ) (y : List ℕ) → cond b (not is_open) (is_name_unit letter) ≡ true → eqb letter 47 ≡ b → has_parts b y ≡ true → has_parts is_open (letter ∷ y) ≡ true
 parts_more is_open true letter y h e k = rw (e, h, k) refl
 parts_more is_open false letter y h e k = rw (e, h, k) refl
 
@@ -51,26 +54,18 @@ closed : (is_open : Bool) (letter : ℕ) → is_misplaced is_open letter ≡ fal
 closed true letter m t = absurd (let k = rw t at m in cc)
 closed false letter m t = refl
 
-and_left : (a b : Bool) → (a && b) ≡ true → a ≡ true
-and_left true b h = refl
-and_left false b h = absurd cc
-
-and_right : (a b : Bool) → (a && b) ≡ true → b ≡ true
-and_right true b h = h
-and_right false b h = absurd cc
-
 slash_stands : (is_open : Bool) (letter : ℕ) → not is_open ≡ true → eqb letter 47 ≡ true → is_misplaced is_open letter ≡ false
 slash_stands true letter p e = absurd cc
 slash_stands false letter p e = grind (arith, nat_tests)
 
-letter_goes_on : (letter : ℕ) → is_name_letter letter ≡ true → eqb letter 59 ≡ false
+letter_goes_on : (letter : ℕ) → is_name_unit letter ≡ true → eqb letter 59 ≡ false
 letter_goes_on letter p = grind (arith, nat_tests)
 
-letter_stands : (is_open : Bool) (letter : ℕ) → is_name_letter letter ≡ true → eqb letter 47 ≡ false → is_misplaced is_open letter ≡ false
+letter_stands : (is_open : Bool) (letter : ℕ) → is_name_unit letter ≡ true → eqb letter 47 ≡ false → is_misplaced is_open letter ≡ false
 letter_stands true letter p e = grind (arith, nat_tests)
 letter_stands false letter p e = grind (arith, nat_tests)
 
-pub name_takes : (is_open : Bool) (at : ℕ) (text : List ℕ) (x : List ℕ × Letters) → name_in is_open at text ≡ Ok x → NameTakes is_open text x.0 x.1.rest
+pub name_takes : (is_open : Bool) (at : ℕ) (text : List ℕ) (x : List ℕ × Place) → name_in is_open at text ≡ Ok x → NameTakes is_open text x.0 x.1.rest
 name_takes is_open at [] x e = absurd cc
 name_takes is_open at (letter ∷ text) x e = by (is_misplaced is_open letter) (eqb letter 59) refl refl e (λ y h. name_takes (eqb letter 47) (at + 1) text y h)
   where
@@ -80,19 +75,19 @@ name_takes is_open at (letter ∷ text) x e = by (is_misplaced is_open letter) (
     last : is_misplaced is_open letter ≡ false → eqb letter 59 ≡ true → NameTakes is_open (letter ∷ text) [] text
     last m t = record { parts = closed is_open letter m t; front = ap (λ (z : ℕ). z ∷ text) (grind (arith, nat_tests)) }
 
-    by : (a b : Bool) → is_misplaced is_open letter ≡ a → eqb letter 59 ≡ b → cond a (Err (BadLetter at)) (cond b (Ok ([], record { at = at + 1; rest = text })) (with_letter letter (name_in (eqb letter 47) (at + 1) text))) ≡ Ok x → ((y : List ℕ × Letters) → name_in (eqb letter 47) (at + 1) text ≡ Ok y → NameTakes (eqb letter 47) text y.0 y.1.rest) → NameTakes is_open (letter ∷ text) x.0 x.1.rest
+    by : (a b : Bool) → is_misplaced is_open letter ≡ a → eqb letter 59 ≡ b → cond a (Err (BadLetter at)) (cond b (Ok ([], record { at = at + 1; rest = text })) (with_letter letter (name_in (eqb letter 47) (at + 1) text))) ≡ Ok x → ((y : List ℕ × Place) → name_in (eqb letter 47) (at + 1) text ≡ Ok y → NameTakes (eqb letter 47) text y.0 y.1.rest) → NameTakes is_open (letter ∷ text) x.0 x.1.rest
     by true b m t h all = absurd cc
-    by false true m t h all = (let k : ([], record { at = at + 1; rest = text }) ≡ x = cc in subst (λ (z : List ℕ × Letters). NameTakes is_open (letter ∷ text) z.0 z.1.rest) k (last m t))
+    by false true m t h all = (let k : ([], record { at = at + 1; rest = text }) ≡ x = cc in subst (λ (z : List ℕ × Place). NameTakes is_open (letter ∷ text) z.0 z.1.rest) k (last m t))
     by false false m t h all = (
         let k = with_letter_ok letter (name_in (eqb letter 47) (at + 1) text) x h in
         subst (λ (z : List ℕ). NameTakes is_open (letter ∷ text) z x.1.rest) (sym k.2) (more k.0 t m (all (k.0, x.1) k.1)))
 
 -- so many letters on, with this value
-pub record Stops {A : Type 0} (r : Result (A × Letters) DescFault) (x : A) (rest : List ℕ) : Type 0 where
+pub record Stops {A : Type 0} (r : Result (A × Place) DescFault) (x : A) (rest : List ℕ) : Type 0 where
   pub at : ℕ
   pub is : r ≡ Ok (x, record { at = at; rest = rest })
 
-letter_read : (is_open b : Bool) (at letter : ℕ) (text name : List ℕ) (q : Letters) → is_misplaced is_open letter ≡ false → eqb letter 59 ≡ false → eqb letter 47 ≡ b → name_in b (at + 1) text ≡ Ok (name, q) → name_in is_open at (letter ∷ text) ≡ Ok (letter ∷ name, q)
+letter_read : (is_open b : Bool) (at letter : ℕ) (text name : List ℕ) (q : Place) → is_misplaced is_open letter ≡ false → eqb letter 59 ≡ false → eqb letter 47 ≡ b → name_in b (at + 1) text ≡ Ok (name, q) → name_in is_open at (letter ∷ text) ≡ Ok (letter ∷ name, q)
 letter_read is_open b at letter text name q m s e h =
     let k : with_letter letter (name_in (eqb letter 47) (at + 1) text) ≡ Ok (letter ∷ name, q) = rw (e, h) refl in
     rw (m, s) k
@@ -102,18 +97,18 @@ name_again true at [] rest h = absurd cc
 name_again false at [] rest h = record { at = at + 1; is = refl }
 name_again is_open at (letter ∷ name) rest h = by (eqb letter 47) refl h (λ b k. name_again b (at + 1) name rest k)
   where
-    by : (b : Bool) → eqb letter 47 ≡ b → cond b (not is_open && has_parts true name) (is_name_letter letter && has_parts false name) ≡ true → ((b : Bool) → has_parts b name ≡ true → Stops (name_in b (at + 1) (name ++ 59 ∷ rest)) name rest) → Stops (name_in is_open at ((letter ∷ name) ++ 59 ∷ rest)) (letter ∷ name) rest
+    by : (b : Bool) → eqb letter 47 ≡ b → cond b (not is_open && has_parts true name) (is_name_unit letter && has_parts false name) ≡ true → ((b : Bool) → has_parts b name ≡ true → Stops (name_in b (at + 1) (name ++ 59 ∷ rest)) name rest) → Stops (name_in is_open at ((letter ∷ name) ++ 59 ∷ rest)) (letter ∷ name) rest
     by true e k all =
-        let p : not is_open ≡ true = and_left (not is_open) (has_parts true name) k in
+        let p : not is_open ≡ true = (and_parts (not is_open) (has_parts true name) k).0 in
         let m : is_misplaced is_open letter ≡ false = slash_stands is_open letter p e in
         let s : eqb letter 59 ≡ false = grind (arith, nat_tests) in
-        let more = all true (and_right (not is_open) (has_parts true name) k) in
+        let more = all true (and_parts (not is_open) (has_parts true name) k).1 in
         record { at = more.at; is = letter_read is_open true at letter (name ++ 59 ∷ rest) name _ m s e more.is }
     by false e k all =
-        let p : is_name_letter letter ≡ true = and_left (is_name_letter letter) (has_parts false name) k in
+        let p : is_name_unit letter ≡ true = (and_parts (is_name_unit letter) (has_parts false name) k).0 in
         let m : is_misplaced is_open letter ≡ false = letter_stands is_open letter p e in
         let s : eqb letter 59 ≡ false = letter_goes_on letter p in
-        let more = all false (and_right (is_name_letter letter) (has_parts false name) k) in
+        let more = all false (and_parts (is_name_unit letter) (has_parts false name) k).1 in
         record { at = more.at; is = letter_read is_open false at letter (name ++ 59 ∷ rest) name _ m s e more.is }
 
 -- ---- bases
@@ -141,14 +136,14 @@ plain_takes letter b rest e = by (eqb letter 90) (eqb letter 66) (eqb letter 67)
     by false false false false false true a1 a2 a3 a4 a5 a6 h = one Long 74 refl tt (grind (arith, nat_tests)) h
     by false false false false false false a1 a2 a3 a4 a5 a6 h = absurd cc
 
-object_takes : (letter : ℕ) (rest : List ℕ) (r : Result (List ℕ × Letters) DescFault) (x : Base × Letters) → letter ≡ 76 → ((y : List ℕ × Letters) → r ≡ Ok y → NameTakes true rest y.0 y.1.rest) → object r ≡ Ok x → BaseTakes (letter ∷ rest) x.0 x.1.rest
+object_takes : (letter : ℕ) (rest : List ℕ) (r : Result (List ℕ × Place) DescFault) (x : Base × Place) → letter ≡ 76 → ((y : List ℕ × Place) → r ≡ Ok y → NameTakes true rest y.0 y.1.rest) → object r ≡ Ok x → BaseTakes (letter ∷ rest) x.0 x.1.rest
 object_takes letter rest (Ok y) x l all e =
     let k : (Object y.0, y.1) ≡ x = cc in
     let n = all y refl in
-    subst (λ (z : Base × Letters). BaseTakes (letter ∷ rest) z.0 z.1.rest) k (record { fits = n.parts; front = rw (l, n.front, append_assoc y.0 (59 ∷ []) y.1.rest) refl })
+    subst (λ (z : Base × Place). BaseTakes (letter ∷ rest) z.0 z.1.rest) k (record { fits = sym (parts_are y.0) ∙ n.parts; front = rw (l, n.front, append_assoc y.0 (59 ∷ []) y.1.rest) refl })
 object_takes letter rest (Err fault) x l all e = absurd cc
 
-base_takes : (at letter : ℕ) (rest : List ℕ) (x : Base × Letters) → base_in at letter rest ≡ Ok x → BaseTakes (letter ∷ rest) x.0 x.1.rest
+base_takes : (at letter : ℕ) (rest : List ℕ) (x : Base × Place) → base_in at letter rest ≡ Ok x → BaseTakes (letter ∷ rest) x.0 x.1.rest
 unfolding base_in
 base_takes at letter rest x e = by (plain letter) refl e
   where
@@ -158,7 +153,7 @@ base_takes at letter rest x e = by (plain letter) refl e
     other false false h k = absurd cc
 
     by : (p : Option Base) → plain letter ≡ p → plain_or p at letter rest ≡ Ok x → BaseTakes (letter ∷ rest) x.0 x.1.rest
-    by (Some b) h k = (let j : (b, record { at = at + 1; rest = rest }) ≡ x = cc in subst (λ (z : Base × Letters). BaseTakes (letter ∷ rest) z.0 z.1.rest) j (plain_takes letter b rest h))
+    by (Some b) h k = (let j : (b, record { at = at + 1; rest = rest }) ≡ x = cc in subst (λ (z : Base × Place). BaseTakes (letter ∷ rest) z.0 z.1.rest) j (plain_takes letter b rest h))
     by None h k = other (eqb letter 76) (eqb letter 70 || eqb letter 68) refl k
 
 base_again : (at : ℕ) (b : Base) (rest : List ℕ) (dims : ℕ) → IsBase b → Stops (field_in dims at (spelled_base b ++ rest)) (record { dims = dims; base = b }) rest
@@ -170,7 +165,7 @@ base_again at Short rest dims h = record { at = at + 1; is = refl }
 base_again at Int rest dims h = record { at = at + 1; is = refl }
 base_again at Long rest dims h = record { at = at + 1; is = refl }
 base_again at (Object name) rest dims h =
-    let n = name_again true (at + 1) name rest h in
+    let n = name_again true (at + 1) name rest (parts_are name ∙ h) in
     record { at = n.at; is = rw (append_assoc name (59 ∷ []) rest, n.is) refl }
 
 -- ---- fields
@@ -182,14 +177,14 @@ pub record FieldTakes (dims : ℕ) (text : List ℕ) (field : FieldShape) (rest 
   pub fits : IsBase field.base
   pub front : text ≡ replicate more 91 ++ (spelled_base field.base ++ rest)
 
-dims_takes : (dims : ℕ) (text : List ℕ) (r : Result (Base × Letters) DescFault) (x : FieldShape × Letters) → dims < 256 → ((y : Base × Letters) → r ≡ Ok y → BaseTakes text y.0 y.1.rest) → with_dims dims r ≡ Ok x → FieldTakes dims text x.0 x.1.rest
+dims_takes : (dims : ℕ) (text : List ℕ) (r : Result (Base × Place) DescFault) (x : FieldShape × Place) → dims < 256 → ((y : Base × Place) → r ≡ Ok y → BaseTakes text y.0 y.1.rest) → with_dims dims r ≡ Ok x → FieldTakes dims text x.0 x.1.rest
 dims_takes dims text (Ok y) x l all e =
     let k : (record { dims = dims; base = y.0 }, y.1) ≡ x = cc in
     let b = all y refl in
-    subst (λ (z : FieldShape × Letters). FieldTakes dims text z.0 z.1.rest) k (record { more = 0; dims_are = omega arith; few = l; fits = b.fits; front = b.front })
+    subst (λ (z : FieldShape × Place). FieldTakes dims text z.0 z.1.rest) k (record { more = 0; dims_are = omega arith; few = l; fits = b.fits; front = b.front })
 dims_takes dims text (Err fault) x l all e = absurd cc
 
-pub field_takes : (dims at : ℕ) (text : List ℕ) (x : FieldShape × Letters) → dims < 256 → field_in dims at text ≡ Ok x → FieldTakes dims text x.0 x.1.rest
+pub field_takes : (dims at : ℕ) (text : List ℕ) (x : FieldShape × Place) → dims < 256 → field_in dims at text ≡ Ok x → FieldTakes dims text x.0 x.1.rest
 field_takes dims at [] x l e = absurd cc
 field_takes dims at (letter ∷ text) x l e = by (eqb letter 91) (ltb dims 255) refl refl e (λ m h. field_takes (dims + 1) (at + 1) text x m h)
   where
@@ -219,7 +214,7 @@ field_found (letter ∷ text) field e =
     let k = rw z at e in
     by (field_in 0 0 (letter ∷ text)) refl k
   where
-    end : (x : FieldShape × Letters) → FieldTakes 0 (letter ∷ text) x.0 x.1.rest → ended x ≡ Ok field → IsField field × (letter ∷ text ≡ spelled_field field)
+    end : (x : FieldShape × Place) → FieldTakes 0 (letter ∷ text) x.0 x.1.rest → ended x ≡ Ok field → IsField field × (letter ∷ text ≡ spelled_field field)
     end x t h = at_end x.1.rest refl h
       where
         at_end : (rest : List ℕ) → x.1.rest ≡ rest → cond (length rest == 0) (Ok x.0) (Err Trailing) ≡ Ok field → IsField field × (letter ∷ text ≡ spelled_field field)
@@ -230,7 +225,7 @@ field_found (letter ∷ text) field e =
             subst (λ (z : FieldShape). IsField z × (letter ∷ text ≡ spelled_field z)) j ((t.few, t.fits), f))
         at_end (y ∷ rest) r k = let z : (length (y ∷ rest) == 0) ≡ false = grind (arith, nat_tests) in let w = rw z at k in absurd cc
 
-    by : (r : Result (FieldShape × Letters) DescFault) → field_in 0 0 (letter ∷ text) ≡ r → (r >>= ended) ≡ Ok field → IsField field × (letter ∷ text ≡ spelled_field field)
+    by : (r : Result (FieldShape × Place) DescFault) → field_in 0 0 (letter ∷ text) ≡ r → (r >>= ended) ≡ Ok field → IsField field × (letter ∷ text ≡ spelled_field field)
     by (Ok x) h k = end x (field_takes 0 0 (letter ∷ text) x (omega arith) h) k
     by (Err fault) h k = absurd cc
 
@@ -256,34 +251,26 @@ field_only text field h e =
     let f : field_in 0 0 (spelled_field field) ≡ Ok (field, record { at = s.at; rest = [] }) = ap (λ (b : List ℕ). field_in 0 0 (replicate field.dims 91 ++ b)) (sym (append-nil (spelled_base field.base))) ∙ s.is in
     rw (e, first_letter field, f) refl
 
-pub field_answers : (text : List ℕ) (result : Result FieldShape DescFault) → Parses result (field_of text) → IfOk result (λ field. IsField field × (text ≡ spelled_field field))
+pub field_answers : (text : List ℕ) (result : Result FieldShape DescFault) → AnswersUnless OutOfMemory result (field_of text) → IfOk result (λ field. IsField field × (text ≡ spelled_field field))
 field_answers text (Ok field) h = field_found text field h
 field_answers text (Err fault) h = tt
 
-pub field_answers_only : (text : List ℕ) (result : Result FieldShape DescFault) (field : FieldShape) → Parses result (field_of text) → IsField field → text ≡ spelled_field field → Parses result (Ok field)
-field_answers_only text result field p h e = subst (λ (r : Result FieldShape DescFault). Parses result r) (field_only text field h e) p
+pub field_answers_only : (text : List ℕ) (result : Result FieldShape DescFault) (field : FieldShape) → AnswersUnless OutOfMemory result (field_of text) → IsField field → text ≡ spelled_field field → AnswersUnless OutOfMemory result (Ok field)
+field_answers_only text result field p h e = subst (λ (r : Result FieldShape DescFault). AnswersUnless OutOfMemory result r) (field_only text field h e) p
 
 -- ---- the loop over parameters
 
-pub faults_too : {A B : Type 0} (fault : DescFault) (given : Result A DescFault) (r : Result B DescFault) → Faults fault given → (given ≡ Err fault → r ≡ Err fault) → Faults fault r
-faults_too Empty given r h f = f h
-faults_too (BadLetter n) given r h f = f h
-faults_too Open given r h f = f h
-faults_too Trailing given r h f = f h
-faults_too Float given r h f = f h
-faults_too OutOfMemory given r h f = tt
-
-pub params_end : (front : List FieldShape) (most i at : ℕ) (text : List ℕ) (fault : DescFault) (r : Result (List FieldShape × Letters) DescFault) → i < most → with_fields front (params_in (most - i) at text) ≡ r → is_next 41 text ≡ false → field_in 0 at text ≡ Err fault → r ≡ Err fault
+pub params_end : (front : List FieldShape) (most i at : ℕ) (text : List ℕ) (fault : DescFault) (r : Result (List FieldShape × Place) DescFault) → i < most → with_fields front (params_in (most - i) at text) ≡ r → is_next 41 text ≡ false → field_in 0 at text ≡ Err fault → r ≡ Err fault
 params_end front most i at text fault r l e n f =
     let m : most - i ≡ suc (most - (i + 1)) = omega arith in
     sym e ∙ rw (m, n, f) refl
 
-pub params_go : (front : List FieldShape) (most i at : ℕ) (text : List ℕ) (field : FieldShape) (q : Letters) (r : Result (List FieldShape × Letters) DescFault) → i < most → with_fields front (params_in (most - i) at text) ≡ r → is_next 41 text ≡ false → field_in 0 at text ≡ Ok (field, q) → with_fields (front ++ field ∷ []) (params_in (most - (i + 1)) q.at q.rest) ≡ r
+pub params_go : (front : List FieldShape) (most i at : ℕ) (text : List ℕ) (field : FieldShape) (q : Place) (r : Result (List FieldShape × Place) DescFault) → i < most → with_fields front (params_in (most - i) at text) ≡ r → is_next 41 text ≡ false → field_in 0 at text ≡ Ok (field, q) → with_fields (front ++ field ∷ []) (params_in (most - (i + 1)) q.at q.rest) ≡ r
 params_go front most i at text field q r l e n f =
     let m : most - i ≡ suc (most - (i + 1)) = omega arith in
     let k : with_fields front (params_in (most - i) at text) ≡ with_fields front (with_field field (params_in (most - (i + 1)) q.at q.rest)) = rw (m, n, f) refl in
     by (params_in (most - (i + 1)) q.at q.rest) ∙ sym k ∙ e
   where
-    by : (x : Result (List FieldShape × Letters) DescFault) → with_fields (front ++ field ∷ []) x ≡ with_fields front (with_field field x)
+    by : (x : Result (List FieldShape × Place) DescFault) → with_fields (front ++ field ∷ []) x ≡ with_fields front (with_field field x)
     by (Ok x) = let a = append_assoc front (field ∷ []) x.0 in cc
     by (Err fault) = refl

@@ -1,3 +1,5 @@
+pub mod Bytes
 pub mod Units
+pub mod Names
 pub mod Descriptors
 pub mod Methods

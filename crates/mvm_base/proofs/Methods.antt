@@ -2,15 +2,15 @@
 use Rattle.std.proofs.Common.{◌≡◌, ℕ, zero, suc, ◌+◌, ◌<◌, ◌≤◌, ◌^◌, Bool, true, false, cond, ◌==◌, List, [], ◌∷◌, ◌++◌, length, drop, replicate, flat_map, All, IfSome, IfOk, Option, Some, None, Result, Ok, Err, refl, sym, ap, subst, ◌∙◌, append_assoc, append-nil, length-append, arith}
 use Rattle.std.proofs.lemmas.Bool.Decides.{nat_tests}
 use Rattle.std.proofs.lemmas.List.Elements.{All-nil, All-cons, All-head, All-tail}
-use Rattle.mvm_base.specs.Letters.{Letters}
-use Rattle.mvm_base.specs.Answers.{◌>>=◌}
-use Rattle.mvm_base.specs.Descriptor.{spelled_base, spelled_field, spelled_result, spelled_method, IsField, IsMethod, field_in, ended, is_next, with_field, params_in, some_field, result_in, after_params, method_in, method_of, Parses}
+use Rattle.mvm_base.specs.Place.{Place}
+use Rattle.mvm_base.specs.Answers.{◌>>=◌, AnswersUnless}
+use Rattle.mvm_base.specs.Descriptor.{spelled_base, spelled_field, spelled_result, spelled_method, IsField, IsMethod, field_in, ended, is_next, with_field, params_in, some_field, result_in, after_params, method_in, method_of}
 use Rattle.mvm_base.specs.declared.descriptor.Base.{Base}
 use Rattle.mvm_base.specs.declared.descriptor.Base.TheVariants.{Boolean, Byte, Char, Short, Int, Long, Object}
 use Rattle.mvm_base.specs.declared.descriptor.FieldShape.{FieldShape}
 use Rattle.mvm_base.specs.declared.descriptor.MethodShape.{MethodShape}
 use Rattle.mvm_base.specs.declared.descriptor.DescFault.{DescFault}
-use Rattle.mvm_base.specs.declared.descriptor.DescFault.TheVariants.{BadLetter, Trailing}
+use Rattle.mvm_base.specs.declared.descriptor.DescFault.TheVariants.{BadLetter, Trailing, OutOfMemory}
 use Rattle.mvm_base.proofs.Descriptors.{Stops, field_takes, field_again, some_letters}
 
 -- ---- letters
@@ -40,7 +40,7 @@ record FieldFront (text : List ℕ) (field : FieldShape) (rest : List ℕ) : Typ
   fits : IsField field
   front : text ≡ spelled_field field ++ rest
 
-field_front : (at : ℕ) (text : List ℕ) (x : FieldShape × Letters) → field_in 0 at text ≡ Ok x → FieldFront text x.0 x.1.rest
+field_front : (at : ℕ) (text : List ℕ) (x : FieldShape × Place) → field_in 0 at text ≡ Ok x → FieldFront text x.0 x.1.rest
 field_front at text x e =
     let t = field_takes 0 at text x (omega arith) e in
     let m : t.more ≡ x.0.dims = omega (arith, t.dims_are) in
@@ -51,22 +51,22 @@ pub record ParamsTake (most : ℕ) (text : List ℕ) (params : List FieldShape) 
   pub fit : All IsField params
   pub front : text ≡ flat_map spelled_field params ++ 41 ∷ rest
 
-one_more : (most : ℕ) (text more : List ℕ) (field : FieldShape) (r : Result (List FieldShape × Letters) DescFault) (x : List FieldShape × Letters) → FieldFront text field more → ((y : List FieldShape × Letters) → r ≡ Ok y → ParamsTake most more y.0 y.1.rest) → with_field field r ≡ Ok x → ParamsTake (suc most) text x.0 x.1.rest
+one_more : (most : ℕ) (text more : List ℕ) (field : FieldShape) (r : Result (List FieldShape × Place) DescFault) (x : List FieldShape × Place) → FieldFront text field more → ((y : List FieldShape × Place) → r ≡ Ok y → ParamsTake most more y.0 y.1.rest) → with_field field r ≡ Ok x → ParamsTake (suc most) text x.0 x.1.rest
 one_more most text more field (Ok y) x f all e =
     let k : (field ∷ y.0, y.1) ≡ x = cc in
     let b = all y refl in
     let g : text ≡ flat_map spelled_field (field ∷ y.0) ++ 41 ∷ y.1.rest = f.front ∙ rw (b.front, append_assoc (spelled_field field) (flat_map spelled_field y.0) (41 ∷ y.1.rest)) refl in
-    subst (λ (z : List FieldShape × Letters). ParamsTake (suc most) text z.0 z.1.rest) k (record { few = omega (arith, b.few); fit = All-cons IsField field y.0 f.fits b.fit; front = g })
+    subst (λ (z : List FieldShape × Place). ParamsTake (suc most) text z.0 z.1.rest) k (record { few = omega (arith, b.few); fit = All-cons IsField field y.0 f.fits b.fit; front = g })
 one_more most text more field (Err fault) x f all e = absurd cc
 
-pub params_take : (most at : ℕ) (text : List ℕ) (x : List FieldShape × Letters) → params_in most at text ≡ Ok x → ParamsTake most text x.0 x.1.rest
+pub params_take : (most at : ℕ) (text : List ℕ) (x : List FieldShape × Place) → params_in most at text ≡ Ok x → ParamsTake most text x.0 x.1.rest
 params_take zero at text x e = absurd cc
 params_take (suc most) at text x e = by (is_next 41 text) refl (field_in 0 at text) refl e (λ q y h. params_take most q.at q.rest y h)
   where
-    by : (b : Bool) → is_next 41 text ≡ b → (r : Result (FieldShape × Letters) DescFault) → field_in 0 at text ≡ r → cond b (Ok ([], record { at = at + 1; rest = drop 1 text })) (r >>= (λ z. with_field z.0 (params_in most z.1.at z.1.rest))) ≡ Ok x → ((q : Letters) (y : List FieldShape × Letters) → params_in most q.at q.rest ≡ Ok y → ParamsTake most q.rest y.0 y.1.rest) → ParamsTake (suc most) text x.0 x.1.rest
+    by : (b : Bool) → is_next 41 text ≡ b → (r : Result (FieldShape × Place) DescFault) → field_in 0 at text ≡ r → cond b (Ok ([], record { at = at + 1; rest = drop 1 text })) (r >>= (λ z. with_field z.0 (params_in most z.1.at z.1.rest))) ≡ Ok x → ((q : Place) (y : List FieldShape × Place) → params_in most q.at q.rest ≡ Ok y → ParamsTake most q.rest y.0 y.1.rest) → ParamsTake (suc most) text x.0 x.1.rest
     by true n r f h all =
         let k : ([], record { at = at + 1; rest = drop 1 text }) ≡ x = cc in
-        subst (λ (z : List FieldShape × Letters). ParamsTake (suc most) text z.0 z.1.rest) k (record { few = omega arith; fit = All-nil IsField; front = next_is 41 text n })
+        subst (λ (z : List FieldShape × Place). ParamsTake (suc most) text z.0 z.1.rest) k (record { few = omega arith; fit = All-nil IsField; front = next_is 41 text n })
     by false n (Ok y) f h all = one_more most text y.1.rest y.0 (params_in most y.1.at y.1.rest) x (field_front at text y f) (all y.1) h
     by false n (Err fault) f h all = absurd cc
 
@@ -74,24 +74,24 @@ pub record ResultTakes (text : List ℕ) (result : Option FieldShape) (rest : Li
   pub fits : IfSome result IsField
   pub front : text ≡ spelled_result result ++ rest
 
-pub result_takes : (at : ℕ) (text : List ℕ) (x : Option FieldShape × Letters) → result_in at text ≡ Ok x → ResultTakes text x.0 x.1.rest
+pub result_takes : (at : ℕ) (text : List ℕ) (x : Option FieldShape × Place) → result_in at text ≡ Ok x → ResultTakes text x.0 x.1.rest
 result_takes at text x e = by (is_next 86 text) refl (field_in 0 at text) refl e
   where
-    by : (b : Bool) → is_next 86 text ≡ b → (r : Result (FieldShape × Letters) DescFault) → field_in 0 at text ≡ r → cond b (Ok (None, record { at = at + 1; rest = drop 1 text })) (r >>= some_field) ≡ Ok x → ResultTakes text x.0 x.1.rest
+    by : (b : Bool) → is_next 86 text ≡ b → (r : Result (FieldShape × Place) DescFault) → field_in 0 at text ≡ r → cond b (Ok (None, record { at = at + 1; rest = drop 1 text })) (r >>= some_field) ≡ Ok x → ResultTakes text x.0 x.1.rest
     by true n r f h =
         let k : (None, record { at = at + 1; rest = drop 1 text }) ≡ x = cc in
-        subst (λ (z : Option FieldShape × Letters). ResultTakes text z.0 z.1.rest) k (record { fits = tt; front = next_is 86 text n })
+        subst (λ (z : Option FieldShape × Place). ResultTakes text z.0 z.1.rest) k (record { fits = tt; front = next_is 86 text n })
     by false n (Ok y) f h =
         let k : (Some y.0, y.1) ≡ x = cc in
         let g = field_front at text y f in
-        subst (λ (z : Option FieldShape × Letters). ResultTakes text z.0 z.1.rest) k (record { fits = g.fits; front = g.front })
+        subst (λ (z : Option FieldShape × Place). ResultTakes text z.0 z.1.rest) k (record { fits = g.fits; front = g.front })
     by false n (Err fault) f h = absurd cc
 
-record Ends {A : Type 0} (x : A × Letters) (value : A) : Type 0 where
+record Ends {A : Type 0} (x : A × Place) (value : A) : Type 0 where
   is : x.0 ≡ value
   rest_is : x.1.rest ≡ []
 
-ended_is : {A : Type 0} (x : A × Letters) (value : A) → ended x ≡ Ok value → Ends x value
+ended_is : {A : Type 0} (x : A × Place) (value : A) → ended x ≡ Ok value → Ends x value
 ended_is x value e = by x.1.rest refl e
   where
     by : (rest : List ℕ) → x.1.rest ≡ rest → cond (length rest == 0) (Ok x.0) (Err Trailing) ≡ Ok value → Ends x value
@@ -106,16 +106,16 @@ pub record MethodTakes (text : List ℕ) (method : MethodShape) : Type 0 where
 pub method_takes : (at : ℕ) (text : List ℕ) (method : MethodShape) → method_in at text ≡ Ok method → MethodTakes text method
 method_takes at text method e = by (params_in (length text) at text) refl e
   where
-    both : (x : List FieldShape × Letters) (y : Option FieldShape × Letters) → ParamsTake (length text) text x.0 x.1.rest → ResultTakes x.1.rest y.0 y.1.rest → y.1.rest ≡ [] → MethodTakes text (record { params = x.0; result = y.0 })
+    both : (x : List FieldShape × Place) (y : Option FieldShape × Place) → ParamsTake (length text) text x.0 x.1.rest → ResultTakes x.1.rest y.0 y.1.rest → y.1.rest ≡ [] → MethodTakes text (record { params = x.0; result = y.0 })
     both x y p q r = record { few = p.few; fits = (p.fit, q.fits); front = p.front ∙ rw (q.front, r, append-nil (spelled_result y.0)) refl }
 
-    last : (x : List FieldShape × Letters) (r : Result (Option FieldShape × Letters) DescFault) → result_in x.1.at x.1.rest ≡ r → ParamsTake (length text) text x.0 x.1.rest → ((r >>= (λ y. Ok (record { params = x.0; result = y.0 }, y.1))) >>= ended) ≡ Ok method → MethodTakes text method
+    last : (x : List FieldShape × Place) (r : Result (Option FieldShape × Place) DescFault) → result_in x.1.at x.1.rest ≡ r → ParamsTake (length text) text x.0 x.1.rest → ((r >>= (λ y. Ok (record { params = x.0; result = y.0 }, y.1))) >>= ended) ≡ Ok method → MethodTakes text method
     last x (Ok y) f p h =
         let n = ended_is (record { params = x.0; result = y.0 }, y.1) method h in
         subst (λ (z : MethodShape). MethodTakes text z) n.is (both x y p (result_takes x.1.at x.1.rest y f) n.rest_is)
     last x (Err fault) f p h = absurd cc
 
-    by : (r : Result (List FieldShape × Letters) DescFault) → params_in (length text) at text ≡ r → ((r >>= after_params) >>= ended) ≡ Ok method → MethodTakes text method
+    by : (r : Result (List FieldShape × Place) DescFault) → params_in (length text) at text ≡ r → ((r >>= after_params) >>= ended) ≡ Ok method → MethodTakes text method
     by (Ok x) f h = last x (result_in x.1.at x.1.rest) refl (params_take (length text) at text x f) h
     by (Err fault) f h = absurd cc
 
@@ -140,7 +140,7 @@ method_found (letter ∷ text) method e =
 
 -- ---- what is spelled so is read
 
-params_read : (most at : ℕ) (text : List ℕ) (field : FieldShape) (params : List FieldShape) (q r : Letters) → is_next 41 text ≡ false → field_in 0 at text ≡ Ok (field, q) → params_in most q.at q.rest ≡ Ok (params, r) → params_in (suc most) at text ≡ Ok (field ∷ params, r)
+params_read : (most at : ℕ) (text : List ℕ) (field : FieldShape) (params : List FieldShape) (q r : Place) → is_next 41 text ≡ false → field_in 0 at text ≡ Ok (field, q) → params_in most q.at q.rest ≡ Ok (params, r) → params_in (suc most) at text ≡ Ok (field ∷ params, r)
 params_read most at text field params q r n f h = rw (n, f, h) refl
 
 pub params_again : (params : List FieldShape) (most at : ℕ) (rest : List ℕ) → All IsField params → length (flat_map spelled_field params ++ 41 ∷ rest) ≤ most → Stops (params_in most at (flat_map spelled_field params ++ 41 ∷ rest)) params rest
@@ -175,13 +175,13 @@ method_only text method h e =
 
 -- ---- what the call answers
 
-pub method_answers : (text : List ℕ) (result : Result MethodShape DescFault) → Parses result (method_of text) → IfOk result (λ method. IsMethod method × (text ≡ spelled_method method))
+pub method_answers : (text : List ℕ) (result : Result MethodShape DescFault) → AnswersUnless OutOfMemory result (method_of text) → IfOk result (λ method. IsMethod method × (text ≡ spelled_method method))
 method_answers text (Ok method) h = let f = method_found text method h in (f.fits, f.is)
 method_answers text (Err fault) h = tt
 
-pub method_answers_only : (text : List ℕ) (result : Result MethodShape DescFault) (method : MethodShape) → Parses result (method_of text) → IsMethod method → text ≡ spelled_method method → Parses result (Ok method)
-method_answers_only text result method p h e = subst (λ (r : Result MethodShape DescFault). Parses result r) (method_only text method h e) p
+pub method_answers_only : (text : List ℕ) (result : Result MethodShape DescFault) (method : MethodShape) → AnswersUnless OutOfMemory result (method_of text) → IsMethod method → text ≡ spelled_method method → AnswersUnless OutOfMemory result (Ok method)
+method_answers_only text result method p h e = subst (λ (r : Result MethodShape DescFault). AnswersUnless OutOfMemory result r) (method_only text method h e) p
 
-pub method_answers_few : (text : List ℕ) (result : Result MethodShape DescFault) → length text < 2 ^ 32 → Parses result (method_of text) → IfOk result (λ method. length method.params < 2 ^ 32)
+pub method_answers_few : (text : List ℕ) (result : Result MethodShape DescFault) → length text < 2 ^ 32 → AnswersUnless OutOfMemory result (method_of text) → IfOk result (λ method. length method.params < 2 ^ 32)
 method_answers_few text (Ok method) l h = let f = method_found text method h in omega (arith, l, f.few)
 method_answers_few text (Err fault) l h = tt

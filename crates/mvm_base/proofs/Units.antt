@@ -1,8 +1,11 @@
 -- The spelling of a unit, by its first byte, and that no text has two.
-use Rattle.std.proofs.Common.{◌≡◌, ◌==◌, ℕ, zero, suc, get_or, subst, ◌+◌, ◌-◌, ◌*◌, ◌<◌, ◌≤◌, ◌/◌, ◌%◌, ◌^◌, Bool, true, false, ltb, List, [], ◌∷◌, ◌++◌, length, refl, sym, ap, ◌∙◌, append_assoc, append-nil, length-append, ◌≢◌, arith}
+use Rattle.std.proofs.Common.{◌≡◌, ◌==◌, ℕ, zero, suc, get_or, subst, ◌+◌, ◌-◌, ◌*◌, ◌<◌, ◌≤◌, ◌/◌, ◌%◌, ◌^◌, Bool, true, false, ltb, List, [], ◌∷◌, ◌++◌, length, refl, sym, ap, ◌∙◌, append_assoc, append-nil, length-append, ◌≢◌, Result, Err, arith}
 use Rattle.std.proofs.lemmas.Bool.Decides.{nat_tests}
 use Rattle.std.proofs.lemmas.Grind.{flat_map-append}
+use Rattle.mvm_base.specs.Answers.{AnswersUnless}
 use Rattle.mvm_base.specs.ModifiedUtf8.{is_one_byte, spelled, spelled_all, AreUnits, BeginsNone, IsBad}
+use Rattle.mvm_base.specs.declared.modified_utf8.Utf8Fault.{Utf8Fault}
+use Rattle.mvm_base.specs.declared.modified_utf8.Utf8Fault.TheVariants.{Bad, OutOfMemory}
 
 pub one_is : (u : ℕ) → is_one_byte u ≡ true → spelled u ≡ u ∷ []
 unfolding spelled
@@ -183,6 +186,15 @@ fault_place bytes units rest place h e n bad =
     let k = same_cut bytes units rest bad.units bad.rest (record { are_units = h; bytes_are = e; begins_none = n }) (record { are_units = bad.are_units; bytes_are = bad.bytes_are; begins_none = bad.begins_none }) in
     omega (arith, bad.place_is, ap length e, length-append (spelled_all units) rest, ap (λ (x : List ℕ). length (spelled_all x)) k.0)
 
+abbrev answered : Result (List ℕ) Utf8Fault → Result (List ℕ) Utf8Fault
+answered r = r
+
+pub fault_there : (bytes : List ℕ) (n place : ℕ) → answered (Err (Bad n)) ≡ Err (Bad place) → IsBad bytes n → IsBad bytes place
+fault_there bytes n place e bad = let k : n ≡ place = cc in subst (IsBad bytes) k bad
+
+pub told_there : (n place : ℕ) → place ≡ n → AnswersUnless OutOfMemory (answered (Err (Bad n))) (Err (Bad place))
+told_there n place e = λ wanted. cc
+
 pub whole_only : (bytes units xs : List ℕ) → AreUnits units → bytes ≡ spelled_all units → AreUnits xs → bytes ≡ spelled_all xs → xs ≡ units
 whole_only bytes units xs h e k f = (same_cut bytes xs [] units [] (whole bytes xs k f) (whole bytes units h e)).0
 
@@ -216,3 +228,21 @@ none_now bytes units (x ∷ rest) h e = let l : length (x ∷ rest) ≡ 0 = grin
 
 pub one_begins : (b u v : ℕ) (rest : List ℕ) → u ≡ b → v ≡ b → is_one_byte u ≡ true → b ∷ rest ≡ spelled v ++ rest
 one_begins b u v rest e f h = rw (f, one_is b (ap is_one_byte (sym e) ∙ h)) refl
+
+-- ---- no text has more units than bytes
+
+spelled_some : (unit : ℕ) → 1 ≤ length (spelled unit)
+spelled_some unit = elim (shape unit) [
+  | One h s ↦ omega (arith, ap length s)
+  | Two h l s ↦ omega (arith, ap length s)
+  | Three l s ↦ omega (arith, ap length s)
+]
+
+-- each unit takes a byte at least
+pub units_spelled : (units : List ℕ) → length units ≤ length (spelled_all units)
+units_spelled [] = omega arith
+units_spelled (unit ∷ units) =
+    let one = spelled_some unit in
+    let more = units_spelled units in
+    let all = length-append (spelled unit) (spelled_all units) in
+    omega (arith, one, more, all)

@@ -1,6 +1,7 @@
 -- Descriptors (JVM Specification 4.3.2 and 4.3.3): how a shape is spelled, and where a text that spells none goes wrong.
 use Rattle.std.specs.Prelude.{◌≡◌, ℕ, zero, suc, ◌+◌, ◌<◌, List, [], ◌∷◌, ◌++◌, length, drop, Bool, true, false, IsTrue, not, nat_lt, ◌&&◌, ◌||◌, ◌==◌, if◌then◌else◌, flat_map, replicate, sum_by, All, IfSome, Option, Some, None, Result, Ok, Err}
-use Rattle.mvm_base.specs.Letters.{Letters}
+use Rattle.mvm_base.specs.ClassName.{is_binary_name}
+use Rattle.mvm_base.specs.Place.{Place}
 use Rattle.mvm_base.specs.Answers.{◌>>=◌}
 use Rattle.mvm_base.specs.declared.descriptor.Base.{Base}
 use Rattle.mvm_base.specs.declared.descriptor.Base.TheVariants.{Boolean, Byte, Char, Short, Int, Long, Object}
@@ -34,18 +35,8 @@ spelled_result (Some field) = spelled_field field
 abbrev pub spelled_method : MethodShape → List ℕ
 spelled_method method = 40 ∷ flat_map spelled_field method.params ++ 41 ∷ spelled_result method.result
 
--- none of . ; [
-abbrev pub is_name_letter : ℕ → Bool
-is_name_letter letter = not (letter == 46) && not (letter == 59) && not (letter == 91)
-
--- The parts between the slashes are not empty, and all letters can stand in a name. The first part has letters before these
--- where is_open is false.
-abbrev pub has_parts : Bool → List ℕ → Bool
-has_parts is_open [] = not is_open
-has_parts is_open (letter ∷ name) = if letter == 47 then not is_open && has_parts true name else is_name_letter letter && has_parts false name
-
 abbrev pub IsBase : Base → Type 0
-IsBase (Object name) = IsTrue (has_parts true name)
+IsBase (Object name) = IsTrue (is_binary_name name)
 IsBase base = Unit {0}
 
 abbrev pub IsField : FieldShape → Type 0
@@ -70,7 +61,7 @@ slots params = sum_by slots_of params
 
 -- ---- how a text is read, or its first fault
 
-abbrev pub with_letter : ℕ → Result (List ℕ × Letters) DescFault → Result (List ℕ × Letters) DescFault
+abbrev pub with_letter : ℕ → Result (List ℕ × Place) DescFault → Result (List ℕ × Place) DescFault
 with_letter letter (Ok x) = Ok (letter ∷ x.0, x.1)
 with_letter letter (Err fault) = Err fault
 
@@ -79,7 +70,7 @@ abbrev pub is_misplaced : Bool → ℕ → Bool
 is_misplaced is_open letter = is_open && (letter == 59 || letter == 47) || (letter == 46 || letter == 91)
 
 -- the rest of a name, up to its semicolon
-abbrev pub name_in : Bool → ℕ → List ℕ → Result (List ℕ × Letters) DescFault
+abbrev pub name_in : Bool → ℕ → List ℕ → Result (List ℕ × Place) DescFault
 name_in is_open at [] = Err Open
 name_in is_open at (letter ∷ rest) =
     if is_misplaced is_open letter then Err (BadLetter at) else (
@@ -95,35 +86,35 @@ plain letter =
     if letter == 73 then Some Int else (
     if letter == 74 then Some Long else None)))))
 
-abbrev pub object : Result (List ℕ × Letters) DescFault → Result (Base × Letters) DescFault
+abbrev pub object : Result (List ℕ × Place) DescFault → Result (Base × Place) DescFault
 object (Ok x) = Ok (Object x.0, x.1)
 object (Err fault) = Err fault
 
-abbrev pub object_in : ℕ → ℕ → List ℕ → Result (Base × Letters) DescFault
+abbrev pub object_in : ℕ → ℕ → List ℕ → Result (Base × Place) DescFault
 object_in at letter rest =
     if letter == 76 then object (name_in true (at + 1) rest) else (
     if letter == 70 || letter == 68 then Err Float else Err (BadLetter at))
 
-abbrev pub plain_or : Option Base → ℕ → ℕ → List ℕ → Result (Base × Letters) DescFault
+abbrev pub plain_or : Option Base → ℕ → ℕ → List ℕ → Result (Base × Place) DescFault
 plain_or (Some base) at letter rest = Ok (base, record { at = at + 1; rest = rest })
 plain_or None at letter rest = object_in at letter rest
 
 -- what this letter begins
-unfoldable pub base_in : ℕ → ℕ → List ℕ → Result (Base × Letters) DescFault
+unfoldable pub base_in : ℕ → ℕ → List ℕ → Result (Base × Place) DescFault
 base_in at letter rest = plain_or (plain letter) at letter rest
 
-abbrev pub with_dims : ℕ → Result (Base × Letters) DescFault → Result (FieldShape × Letters) DescFault
+abbrev pub with_dims : ℕ → Result (Base × Place) DescFault → Result (FieldShape × Place) DescFault
 with_dims dims (Ok x) = Ok (record { dims = dims; base = x.0 }, x.1)
 with_dims dims (Err fault) = Err fault
 
 -- a field descriptor, after so many of its dimensions
-abbrev pub field_in : ℕ → ℕ → List ℕ → Result (FieldShape × Letters) DescFault
+abbrev pub field_in : ℕ → ℕ → List ℕ → Result (FieldShape × Place) DescFault
 field_in dims at [] = Err Open
 field_in dims at (letter ∷ rest) =
     if letter == 91 then (if nat_lt dims 255 then field_in (dims + 1) (at + 1) rest else Err (BadLetter at)) else
     with_dims dims (base_in at letter rest)
 
-abbrev pub ended : {A : Type 0} → A × Letters → Result A DescFault
+abbrev pub ended : {A : Type 0} → A × Place → Result A DescFault
 ended x = if length x.1.rest == 0 then Ok x.0 else Err Trailing
 
 -- the shape that a whole text spells, or its first fault
@@ -135,26 +126,26 @@ abbrev pub is_next : ℕ → List ℕ → Bool
 is_next letter [] = false
 is_next letter (other ∷ rest) = other == letter
 
-abbrev pub with_field : FieldShape → Result (List FieldShape × Letters) DescFault → Result (List FieldShape × Letters) DescFault
+abbrev pub with_field : FieldShape → Result (List FieldShape × Place) DescFault → Result (List FieldShape × Place) DescFault
 with_field field (Ok x) = Ok (field ∷ x.0, x.1)
 with_field field (Err fault) = Err fault
 
 -- Parameters up to the closing bracket. Each takes a letter at least, and so does the bracket: most is how many letters there
 -- are, and where they are used up the text ends inside.
-abbrev pub params_in : ℕ → ℕ → List ℕ → Result (List FieldShape × Letters) DescFault
+abbrev pub params_in : ℕ → ℕ → List ℕ → Result (List FieldShape × Place) DescFault
 params_in zero at text = Err Open
 params_in (suc most) at text =
     if is_next 41 text then Ok ([], record { at = at + 1; rest = drop 1 text }) else
     (field_in 0 at text >>= λ x. with_field x.0 (params_in most x.1.at x.1.rest))
 
-abbrev pub some_field : FieldShape × Letters → Result (Option FieldShape × Letters) DescFault
+abbrev pub some_field : FieldShape × Place → Result (Option FieldShape × Place) DescFault
 some_field x = Ok (Some x.0, x.1)
 
 -- V, or the result's type
-abbrev pub result_in : ℕ → List ℕ → Result (Option FieldShape × Letters) DescFault
+abbrev pub result_in : ℕ → List ℕ → Result (Option FieldShape × Place) DescFault
 result_in at text = if is_next 86 text then Ok (None, record { at = at + 1; rest = drop 1 text }) else (field_in 0 at text >>= some_field)
 
-abbrev pub after_params : List FieldShape × Letters → Result (MethodShape × Letters) DescFault
+abbrev pub after_params : List FieldShape × Place → Result (MethodShape × Place) DescFault
 after_params x = result_in x.1.at x.1.rest >>= λ y. Ok (record { params = x.0; result = y.0 }, y.1)
 
 -- what stands after the opening bracket, to the end of the text
@@ -166,19 +157,3 @@ unfoldable pub method_of : List ℕ → Result MethodShape DescFault
 method_of text =
     if length text == 0 then Err Empty else (
     if is_next 40 text then method_in 1 (drop 1 text) else Err (BadLetter 0))
-
--- ---- what calls answer
-
-abbrev pub Faults : {A : Type 0} → DescFault → Result A DescFault → Type 0
-Faults OutOfMemory given = Unit {0}
-Faults fault given = given ≡ Err fault
-
--- what the definition gives, unless memory ran out
-abbrev pub Parses : {A : Type 0} → Result A DescFault → Result A DescFault → Type 0
-Parses (Ok x) given = given ≡ Ok x
-Parses (Err fault) given = Faults fault given
-
--- the same, and what is left after it
-abbrev pub ParsesTo : {A : Type 0} → Result A DescFault → Result (A × Letters) DescFault → Letters → Type 0
-ParsesTo (Ok x) given new = given ≡ Ok (x, new)
-ParsesTo (Err fault) given new = Faults fault given

@@ -1,6 +1,7 @@
 pub mod Answers
+pub mod Bytes
+pub mod ClassName
 pub mod Descriptor
-pub mod Letters
 pub mod ModifiedUtf8
 pub mod Place
 pub mod Rules

@@ -1,7 +1,5 @@
 -- Modified UTF-8 (JVM Specification 4.4.7): the text of a class file, unit by unit. A character beyond 16 bits is two units.
-use Rattle.std.specs.Prelude.{◌≡◌, ◌≢◌, ℕ, ◌+◌, ◌<◌, ◌/◌, ◌%◌, ◌^◌, List, [], ◌∷◌, ◌++◌, length, All, flat_map, Bool, nat_lt, ◌&&◌, if◌then◌else◌, Result, Ok, Err}
-use Rattle.mvm_base.specs.declared.modified_utf8.Utf8Fault.{Utf8Fault}
-use Rattle.mvm_base.specs.declared.modified_utf8.Utf8Fault.TheVariants.{Bad, OutOfMemory}
+use Rattle.std.specs.Prelude.{◌≡◌, ◌≢◌, ℕ, ◌+◌, ◌<◌, ◌/◌, ◌%◌, ◌^◌, List, [], ◌∷◌, ◌++◌, length, All, flat_map, Bool, nat_lt, ◌&&◌, if◌then◌else◌}
 
 abbrev pub is_one_byte : ℕ → Bool
 is_one_byte unit = nat_lt 0 unit && nat_lt unit 128
@@ -35,17 +33,6 @@ pub record IsBad (bytes : List ℕ) (place : ℕ) : Type 0 where
   pub is_some : rest ≢ []
   pub begins_none : BeginsNone rest
 
--- this text, or these bytes are bad at this place, unless memory ran out
-abbrev pub Decodes : Result (List ℕ) Utf8Fault → Result (List ℕ) ℕ → Type 0
-Decodes (Ok units) given = given ≡ Ok units
-Decodes (Err (Bad place)) given = given ≡ Err place
-Decodes (Err OutOfMemory) given = Unit {0}
-
 -- the spelling of a unit, and more
 abbrev pub Begins : ℕ → List ℕ → List ℕ → Type 0
 Begins unit more bytes = bytes ≡ spelled unit ++ more
-
--- the bytes are bad at the place that the fault names
-abbrev pub IsBadThere : List ℕ → Utf8Fault → Type 0
-IsBadThere bytes (Bad place) = IsBad bytes place
-IsBadThere bytes OutOfMemory = Unit {0}

@@ -1,34 +1,11 @@
 ghost use Rattle.std.specs.Prelude.{◌≡◌, ◌<◌, ◌^◌, ◌∷◌, [], ◌+◌, length, drop, ◌==◌, true, false, Ok, Err, Option, Some, None, IfOk, IfSome, IfNone};
-ghost use Rattle.mvm_base.specs.Descriptor.{spelled_field, spelled_method, IsField, IsMethod, slots_of, slots, is_next, params_in, result_in, method_in, method_of, is_misplaced, name_in, object_in, plain, base_in, field_in, field_of, Parses, ParsesTo};
+ghost use Rattle.mvm_base.specs.Descriptor.{spelled_field, spelled_method, IsField, IsMethod, slots_of, slots, is_next, params_in, result_in, method_in, method_of, is_misplaced, name_in, object_in, plain, base_in, field_in, field_of};
+ghost use Rattle.mvm_base.specs.Answers.{AnswersUnless, GivesUnless};
 
 use crate::list::List;
 use crate::name::Name;
 use std::alloc::{AllocError, AllocFailed, Global};
 use std::marker::Model;
-
-/// What a value on the stack or in a local is: a number of 32 bits, one of 64 bits, or a reference.
-#[derive(Clone, Copy, Debug, PartialEq, Eq)]
-pub enum Kind {
-    /// A number of 32 bits.
-    Int,
-    /// A number of 64 bits.
-    Long,
-    /// A reference, or null.
-    Ref,
-}
-
-/// A value: a number of 32 bits, one of 64 bits, a reference to the object of a number, or the null reference.
-#[derive(Clone, Copy, Debug, PartialEq, Eq)]
-pub enum Word {
-    /// A number of 32 bits. Truth values, bytes, characters and shorts are such numbers too.
-    Int(i32),
-    /// A number of 64 bits.
-    Long(i64),
-    /// A reference to the object of this number.
-    Ref(u32),
-    /// The reference to no object.
-    Null,
-}
 
 /// What the last dimension of a field's type holds (JVM Specification 4.3.2). `Object` has the name of a class.
 #[derive(Debug, Drop, PartialEq)]
@@ -145,9 +122,9 @@ struct Letters<'a> {
 
 impl<'a> Model for Letters<'a> {
     ghost use Rattle.std.specs.Prelude.{◌<◌, ◌+◌, ◌^◌, length};
-    ghost use Rattle.mvm_base.specs.Letters.{Letters as Left};
+    ghost use Rattle.mvm_base.specs.Place.{Place};
 
-    ghost Value = { Left };
+    ghost Value = { Place };
 
     ghost view = { λ c. record { at = c.at; rest = c.rest.now } };
 
@@ -200,7 +177,7 @@ fn is_misplaced(is_open: bool, letter: u16) -> bool
 
 /// The rest of a name, up to its semicolon.
 fn read_name(alloc: Global, letters: &mut Letters) -> Result<Name, DescFault>
-    ensures { ParsesTo result (name_in true letters.old.at letters.old.rest) letters.new }
+    ensures { GivesUnless DescFault.OutOfMemory result (name_in true letters.old.at letters.old.rest) letters.new }
 {
     let mut units = Vec::new(alloc);
     let mut is_open = true;
@@ -223,7 +200,7 @@ fn read_name(alloc: Global, letters: &mut Letters) -> Result<Name, DescFault>
 #[tactic(auto, unfolding(crate::specs::Descriptor::base_in))]
 fn read_base(alloc: Global, at: u32, letter: u16, letters: &mut Letters) -> Result<Base, DescFault>
     requires { letters.old.at ≡ at + 1 }
-    ensures { ParsesTo result (base_in at letter letters.old.rest) letters.new }
+    ensures { GivesUnless DescFault.OutOfMemory result (base_in at letter letters.old.rest) letters.new }
 {
     match plain_base(letter) {
         Some(base) => Ok(base),
@@ -233,7 +210,7 @@ fn read_base(alloc: Global, at: u32, letter: u16, letters: &mut Letters) -> Resu
 
 fn object(alloc: Global, at: u32, letter: u16, letters: &mut Letters) -> Result<Base, DescFault>
     requires { letters.old.at ≡ at + 1 }
-    ensures { ParsesTo result (object_in at letter letters.old.rest) letters.new }
+    ensures { GivesUnless DescFault.OutOfMemory result (object_in at letter letters.old.rest) letters.new }
 {
     if letter == 0x4c {
         let name = read_name(alloc, letters)?;
@@ -247,7 +224,7 @@ fn object(alloc: Global, at: u32, letter: u16, letters: &mut Letters) -> Result<
 
 /// A field descriptor, as far as it goes.
 fn read_field(alloc: Global, letters: &mut Letters) -> Result<FieldShape, DescFault>
-    ensures { ParsesTo result (field_in 0 letters.old.at letters.old.rest) letters.new }
+    ensures { GivesUnless DescFault.OutOfMemory result (field_in 0 letters.old.at letters.old.rest) letters.new }
 {
     let mut dims: u8 = 0;
     let mut place = letters.at;
@@ -268,7 +245,7 @@ fn read_field(alloc: Global, letters: &mut Letters) -> Result<FieldShape, DescFa
 #[tactic(auto, unfolding(crate::specs::Descriptor::field_of))]
 fn whole_field(alloc: Global, text: &Name) -> Result<FieldShape, DescFault>
     requires { length text.now < 2 ^ 32 }
-    ensures { Parses result (field_of text.now) }
+    ensures { AnswersUnless DescFault.OutOfMemory result (field_of text.now) }
 {
     let units = text.units();
     if units.is_empty() {
@@ -292,16 +269,16 @@ pub fn parse_field(alloc: Global, text: &Name) -> Result<FieldShape, DescFault>
     // What is parsed is spelled so.
     ensures found { IfOk result (λ field. IsField field × (text.now ≡ spelled_field field)) }
     // What is spelled so is parsed, unless memory runs out.
-    ensures only { (field : FieldShape) → IsField field → text.now ≡ spelled_field field → Parses result (Ok field) }
+    ensures only { (field : FieldShape) → IsField field → text.now ≡ spelled_field field → AnswersUnless DescFault.OutOfMemory result (Ok field) }
     // Which fault it is.
-    ensures exact { Parses result (field_of text.now) }
+    ensures exact { AnswersUnless DescFault.OutOfMemory result (field_of text.now) }
 {
     whole_field(alloc, text)
 }
 
 /// Parameters, up to the closing bracket.
 fn read_params(alloc: Global, letters: &mut Letters) -> Result<List<FieldShape>, DescFault>
-    ensures { ParsesTo result (params_in (length letters.old.rest) letters.old.at letters.old.rest) letters.new }
+    ensures { GivesUnless DescFault.OutOfMemory result (params_in (length letters.old.rest) letters.old.at letters.old.rest) letters.new }
 {
     let mut params = List::new(alloc);
     let most = letters.rest.len();
@@ -320,7 +297,7 @@ fn read_params(alloc: Global, letters: &mut Letters) -> Result<List<FieldShape>,
 
 /// The type of a result, if there is one.
 fn read_result(alloc: Global, letters: &mut Letters) -> Result<Option<FieldShape>, DescFault>
-    ensures { ParsesTo result (result_in letters.old.at letters.old.rest) letters.new }
+    ensures { GivesUnless DescFault.OutOfMemory result (result_in letters.old.at letters.old.rest) letters.new }
 {
     if is_next(0x56, letters) {
         letters.next();
@@ -334,7 +311,7 @@ fn read_result(alloc: Global, letters: &mut Letters) -> Result<Option<FieldShape
 
 /// What stands after the opening bracket, to the end.
 fn whole_rest(alloc: Global, letters: &mut Letters) -> Result<MethodShape, DescFault>
-    ensures { Parses result (method_in letters.old.at letters.old.rest) }
+    ensures { AnswersUnless DescFault.OutOfMemory result (method_in letters.old.at letters.old.rest) }
 {
     let params = read_params(alloc, letters)?;
     let result = read_result(alloc, letters)?;
@@ -347,7 +324,7 @@ fn whole_rest(alloc: Global, letters: &mut Letters) -> Result<MethodShape, DescF
 #[tactic(auto, unfolding(crate::specs::Descriptor::method_of))]
 fn whole_method(alloc: Global, text: &Name) -> Result<MethodShape, DescFault>
     requires { length text.now < 2 ^ 32 }
-    ensures { Parses result (method_of text.now) }
+    ensures { AnswersUnless DescFault.OutOfMemory result (method_of text.now) }
 {
     let units = text.units();
     if units.is_empty() {
@@ -367,9 +344,9 @@ pub fn parse_method(alloc: Global, text: &Name) -> Result<MethodShape, DescFault
     // What is parsed is spelled so.
     ensures found { IfOk result (λ method. IsMethod method × (text.now ≡ spelled_method method)) }
     // What is spelled so is parsed, unless memory runs out.
-    ensures only { (method : MethodShape) → IsMethod method → text.now ≡ spelled_method method → Parses result (Ok method) }
+    ensures only { (method : MethodShape) → IsMethod method → text.now ≡ spelled_method method → AnswersUnless DescFault.OutOfMemory result (Ok method) }
     // Which fault it is.
-    ensures exact { Parses result (method_of text.now) }
+    ensures exact { AnswersUnless DescFault.OutOfMemory result (method_of text.now) }
     // Each parameter takes a letter at least.
     ensures short { IfOk result (λ method. length method.params < 2 ^ 32) }
 {

@@ -11,6 +11,7 @@
 //! `D` are faults of their own, since this machine does without them. A long takes two slots, any other type one.
 #![tactic(auto)]
 
+mod class_name;
 mod cursor;
 mod descriptor;
 mod job;
@@ -20,11 +21,11 @@ mod memory;
 mod modified_utf8;
 mod name;
 mod steps;
+mod value;
 
+pub use class_name::is_binary_name;
 pub use cursor::Cursor;
-pub use descriptor::{
-    Base, DescFault, FieldShape, Kind, MethodShape, Word, parse_field, parse_method,
-};
+pub use descriptor::{Base, DescFault, FieldShape, MethodShape, parse_field, parse_method};
 pub use job::Job;
 pub use line::Line;
 pub use list::List;
@@ -32,6 +33,7 @@ pub use memory::OutOfMemory;
 pub use modified_utf8::{Utf8Fault, decode_mutf8, encode_mutf8};
 pub use name::Name;
 pub use steps::Steps;
+pub use value::{Kind, Word};
 
 #[cfg(test)]
 mod tests;

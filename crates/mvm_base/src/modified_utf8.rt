@@ -1,5 +1,6 @@
-ghost use Rattle.std.specs.Prelude.{◌≡◌, ◌<◌, ◌≤◌, ◌^◌, ℕ, List as Units, [], ◌∷◌, ◌++◌, length, ◌≢◌, ◌+◌, Ok, Err, IfOk, IfErr, IfSome, IfNone, OnOk};
-ghost use Rattle.mvm_base.specs.ModifiedUtf8.{is_one_byte, spelled, spelled_all, AreUnits, BeginsNone, IsBad, IsBadThere, Begins, Decodes};
+ghost use Rattle.std.specs.Prelude.{◌≡◌, ◌<◌, ◌≤◌, ◌^◌, ℕ, List as Units, [], ◌∷◌, ◌++◌, length, ◌≢◌, ◌+◌, Ok, Err, IfOk, IfSome, IfNone, OnOk};
+ghost use Rattle.mvm_base.specs.ModifiedUtf8.{is_one_byte, spelled, spelled_all, AreUnits, BeginsNone, IsBad, Begins};
+ghost use Rattle.mvm_base.specs.Answers.{AnswersUnless};
 
 use crate::list::List;
 use crate::memory::OutOfMemory;
@@ -148,10 +149,10 @@ pub fn decode_mutf8(alloc: Global, bytes: &[u8]) -> Result<Name, Utf8Fault>
     // What is decoded is spelled so.
     ensures found { IfOk result (λ name. AreUnits name × (bytes.now ≡ spelled_all name)) }
     // What is spelled so is decoded, unless memory runs out.
-    ensures only { (units : Units ℕ) → AreUnits units → bytes.now ≡ spelled_all units → Decodes result (Ok units) }
+    ensures only { (units : Units ℕ) → AreUnits units → bytes.now ≡ spelled_all units → AnswersUnless Utf8Fault.OutOfMemory result (Ok units) }
     // Where the bytes go wrong.
-    ensures bad { IfErr result (IsBadThere bytes.now) }
-    ensures bad_only { (place : ℕ) → IsBad bytes.now place → Decodes result (Err place) }
+    ensures bad { (place : ℕ) → result ≡ Err (Utf8Fault.Bad place) → IsBad bytes.now place }
+    ensures bad_only { (place : ℕ) → IsBad bytes.now place → AnswersUnless Utf8Fault.OutOfMemory result (Err (Utf8Fault.Bad place)) }
 {
     let mut units = Vec::new(alloc);
     let mut rest = bytes;

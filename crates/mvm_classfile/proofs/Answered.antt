@@ -1,5 +1,6 @@
 -- What bytes are read as is what they spell, and keeps the rules.
 use Rattle.std.proofs.Common.{◌≡◌, ℕ, List, length, ◌<◌, ◌^◌, Some, Result, Ok, Err, refl, sym, subst, ◌∙◌, inl, inr, ◌⊎◌}
+use Rattle.mvm_base.specs.Bytes.{AreBytes}
 use Rattle.mvm_base.specs.Answers.{AnswersUnless}
 use Rattle.mvm_layout.specs.Layout.{laid}
 use Rattle.mvm_layout.specs.declared.fault.ClassFault.{ClassFault}
@@ -14,15 +15,8 @@ use Rattle.mvm_shape.specs.Lowest.{rank, IsWrong}
 use Rattle.mvm_shape.proofs.Lowest.{told, lowest, none}
 use Rattle.mvm_base.specs.Rules.{◌and_then◌}
 use Rattle.mvm_shape.specs.Shape.{linked, rules, parts_of, shaped}
-use Rattle.mvm_classfile.specs.Reading.{Reads, reading, fault_in, fault_of, Says, AreBytes, IsClassFile, IsParts, HasFault, HasWrong}
-
-abbrev done : {A : Type 0} → A → Result A ClassFault
-done x = Ok x
-
--- both rules are kept
-pub both : {A : Type 0} (r : Result (Unit {0}) ClassFault) (next : Result A ClassFault) (x : A) → (r and_then next) ≡ Ok x → (r ≡ Ok tt) × (next ≡ Ok x)
-both (Ok done) next x e = (refl, e)
-both (Err fault) next x e = absurd cc
+use Rattle.mvm_classfile.proofs.Rule.{both}
+use Rattle.mvm_classfile.specs.Reading.{Reads, reading, fault_in, fault_of, Says, IsClassFile, IsParts, HasFault, HasWrong}
 
 pub reading-sound : (text : List ℕ) (parts : Parts) → reading text ≡ Ok parts → Reads text parts
 unfolding reading shaped

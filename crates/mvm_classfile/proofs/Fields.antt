@@ -17,11 +17,10 @@ use Rattle.mvm_base.specs.Rules.{each, each_after}
 use Rattle.mvm_layout.specs.Flags.{is_static}
 use Rattle.mvm_shape.specs.Members.{is_unqualified, holds, field_descriptor, is_named, constants_among, is_constant_value, field_attribute, is_repeated, is_sound_field, tested_field, field_rule, first, index_in, field_part}
 use Rattle.mvm_classfile.specs.Writing.{u2, Names, written_attribute, written_member}
-use Rattle.mvm_classfile.proofs.Plain.{plain_u2, number_again}
+use Rattle.mvm_classfile.proofs.Plain.{both_hold, not_true, plain_u2, number_again, number_lt}
 use Rattle.mvm_classfile.proofs.Pieces.{Each, AttributeFits, MemberFits, attribute_again, member_again, counted_again}
 use Rattle.mvm_classfile.proofs.Named.{text_is_utf8}
-use Rattle.mvm_classfile.proofs.Rule.{kept, holds_true, holds_again, both_hold, and_again, both, both_again, field_desc_again, first_found, key, met_again, key_more}
-use Rattle.mvm_classfile.proofs.Plain.{number_lt}
+use Rattle.mvm_classfile.proofs.Rule.{kept, holds_true, holds_again, and_again, both, both_again, field_desc_again, first_found, key, met_again, key_more}
 
 -- the index that the names have names this text, and is no higher than any that does
 pub record Serves (pool : List Item) (wanted : List ℕ) (index : ℕ) : Type 0 where
@@ -55,18 +54,14 @@ field_spelled_at pool names at flags name desc (Some index) f n d c =
 
 -- ---- the rule
 
-record FieldKept (pool : List Item) (is_interface repeated : Bool) (m : MemberInfo) : Type 0 where
-  met : repeated ≡ false
-  is_sound : (not is_interface || is_static m.flags) ≡ true
-  name : holds is_unqualified (text pool m.name) ≡ true
-  desc : field_descriptor (m.at + 4) (text pool m.desc) ≡ kept
-  attributes : each (field_attribute pool m) m.attributes ≡ kept
+pub record FieldKept (pool : List Item) (is_interface repeated : Bool) (m : MemberInfo) : Type 0 where
+  pub met : repeated ≡ false
+  pub is_sound : (not is_interface || is_static m.flags) ≡ true
+  pub name : holds is_unqualified (text pool m.name) ≡ true
+  pub desc : field_descriptor (m.at + 4) (text pool m.desc) ≡ kept
+  pub attributes : each (field_attribute pool m) m.attributes ≡ kept
 
-not_true : (b : Bool) → not b ≡ true → b ≡ false
-not_true true h = absurd cc
-not_true false h = refl
-
-field_kept : (pool : List Item) (is_interface repeated : Bool) (m : MemberInfo) → tested_field pool is_interface repeated m ≡ kept → FieldKept pool is_interface repeated m
+pub field_kept : (pool : List Item) (is_interface repeated : Bool) (m : MemberInfo) → tested_field pool is_interface repeated m ≡ kept → FieldKept pool is_interface repeated m
 unfolding tested_field is_sound_field
 field_kept pool is_interface repeated m e =
     let a = both _ _ tt e in
@@ -119,7 +114,7 @@ constant_sound_at pool names m true (a ∷ more) serves fits s f k =
     let low : names.constant < 256 ^ 2 = omega (arith, serves.low a.name one.passes, one.fits.name) in
     (s, serves.named a.name one.passes, low, subst (λ (z : List ℕ). is_constant_value pool m.desc z ≡ true) n value, number_lt 2 (big_number 2 a.content) 0 a.content one.fits.bytes (two, refl))
 
-constant_sound : (pool : List Item) (names : Names) (is_interface : Bool) (before : List MemberInfo) (m : MemberInfo) → Serves pool (codes "ConstantValue") names.constant → MemberFits m → field_rule pool is_interface before m ≡ kept
+pub constant_sound : (pool : List Item) (names : Names) (is_interface : Bool) (before : List MemberInfo) (m : MemberInfo) → Serves pool (codes "ConstantValue") names.constant → MemberFits m → field_rule pool is_interface before m ≡ kept
     → ConstantSound pool names m.flags m.desc (field_part pool m).constant
 unfolding field_part field_rule
 constant_sound pool names is_interface before m serves fits e = constant_sound_at pool names m (is_static m.flags) _ serves fits refl refl (field_kept pool is_interface (is_repeated pool before m) m e).attributes

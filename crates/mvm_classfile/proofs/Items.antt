@@ -1,5 +1,7 @@
 -- What spells the entries of a constant pool is the written form of them.
 use Rattle.std.proofs.Common.{◌≡◌, ℕ, zero, suc, ◌+◌, ◌-◌, ◌<◌, ◌≤◌, ◌^◌, Bool, true, false, List, [], ◌∷◌, ◌++◌, length, Some, refl, sym, ap, subst, ◌∙◌, arith}
+use Rattle.mvm_base.proofs.Bytes.{left_bytes, right_bytes}
+use Rattle.mvm_base.specs.Bytes.{AreBytes}
 use Rattle.std.specs.Prelude.{◌==◌, ◌||◌, nat_le, nat_lt}
 use Rattle.std.specs.List.{flat_map, list_all}
 use Rattle.std.specs.Int.{w32, w64, cast_signed}
@@ -9,16 +11,13 @@ use Rattle.std.proofs.lemmas.Bool.Decides.{nat_tests}
 use Rattle.mvm_base.specs.Endian.{big_bytes}
 use Rattle.mvm_base.specs.ModifiedUtf8.{spelled_all}
 use Rattle.mvm_layout.specs.Format.{Format, bytes, number, followed, mapped, choose, refused, if_passing, passing}
-use Rattle.mvm_layout.specs.Text.{text_of}
-use Rattle.mvm_layout.specs.Entries.{second, text, index_of, indices_of, constant, reference, is_wide, tagged, item, takes_two, entry, items, pool}
+use Rattle.mvm_layout.specs.Entries.{second, modified_utf8, text, index_of, indices_of, constant, reference, is_wide, tagged, item, takes_two, entry, items, pool}
 use Rattle.mvm_layout.specs.declared.fault.ClassFault.{ClassFault}
 use Rattle.mvm_layout.specs.declared.fault.ClassFault.TheVariants.{Pool}
 use Rattle.mvm_layout.specs.declared.parts.Item.{Item}
 use Rattle.mvm_layout.specs.declared.parts.Item.TheVariants.{Utf8, Integer, Float, Long, Double, Upper, Class, Str, Fieldref, Methodref, InterfaceMethodref, NameAndType, MethodHandle, MethodType, InvokeDynamic}
-use Rattle.mvm_layout.proofs.Texts.{text_of-sound}
-use Rattle.mvm_classfile.specs.Reading.{AreBytes}
 use Rattle.mvm_classfile.specs.Writing.{u1, u2, u4, written_item, written_pool, fits_item}
-use Rattle.mvm_classfile.proofs.Plain.{Plain, left_bytes, right_bytes, number_lt, plain_u1, plain_u2, plain_u4, plain_u8, plain_bytes, plain_given, plain_followed, plain_mapped, plain_passing}
+use Rattle.mvm_classfile.proofs.Plain.{Plain, number_lt, plain_u1, plain_u2, plain_u4, plain_u8, plain_bytes, plain_given, plain_followed, plain_mapped, plain_passing}
 
 -- what stands behind a tag
 record Tagged (tag : ℕ) (F : Format Item) : Type 0 where
@@ -46,32 +45,23 @@ either tag false F G f g = g refl
 
 -- ---- texts
 
-text_same : (bytes units : List ℕ) → text_of bytes ≡ Some units → u2 (length bytes) ++ bytes ≡ u2 (length (spelled_all units)) ++ spelled_all units
-text_same bytes units e = ap (λ (z : List ℕ). u2 (length z) ++ z) (text_of-sound bytes units e).1
-
-run : Format (List ℕ)
-run = mapped second (followed (number 2) bytes)
-
-run_plain : Plain (mapped second (followed (number 2) bytes)) (λ x. u2 (length x) ++ x)
-run_plain =
-    plain_mapped second (followed (number 2) bytes) (λ x. u2 x.0 ++ x.1) (λ x. u2 (length x) ++ x)
-    (plain_followed (number 2) bytes u2 (λ n x. x) plain_u2 plain_bytes)
-    (λ x at text b s. ap (λ (n : ℕ). u2 n ++ x.1) (sym s.3.1))
+utf8_plain : (fault : ClassFault) (n : ℕ) → Plain (modified_utf8 fault n) spelled_all
+utf8_plain fault n = record { moves = λ x at other text s. s; written = λ x at text b s. s.2 }
 
 text_plain : (index : ℕ) → Plain (text index) (λ units. u2 (length (spelled_all units)) ++ spelled_all units)
 unfolding text
-text_plain index = record {
-  moves = λ y at other t s. (s.0, run_plain.moves s.0 at other t s.1, s.2);
-  written = λ y at t b s. run_plain.written s.0 at t b s.1 ∙ text_same s.0 y s.2;
-}
+text_plain index =
+    plain_mapped second (followed (number 2) (modified_utf8 (Pool index))) (λ x. u2 x.0 ++ spelled_all x.1) (λ units. u2 (length (spelled_all units)) ++ spelled_all units)
+    (plain_followed (number 2) (modified_utf8 (Pool index)) u2 (λ n units. spelled_all units) plain_u2 (utf8_plain (Pool index)))
+    (λ x at t b s. ap (λ (n : ℕ). u2 n ++ spelled_all x.1) (sym s.3.0 ∙ ap length s.3.2))
 
 text_short : (index : ℕ) (units : List ℕ) (at : ℕ) (t : List ℕ) → AreBytes t → (text index).spells units at t → nat_lt (length (spelled_all units)) (2 ^ 16) ≡ true
 unfolding text
 text_short index units at t b s =
-    let h = s.1.1 in
-    let n : s.1.0.0 < 256 ^ 2 = number_lt 2 s.1.0.0 at h.0 (left_bytes t h.0 h.1 h.4 b) h.2 in
-    let l : length s.1.0.1 ≡ s.1.0.0 = h.3.1 in
-    let e : length s.1.0.1 ≡ length (spelled_all units) = ap length (s.1.2 ∙ (text_of-sound s.0 units s.2).1) in
+    let h = s.1 in
+    let n : s.0.0 < 256 ^ 2 = number_lt 2 s.0.0 at h.0 (left_bytes t h.0 h.1 h.4 b) h.2 in
+    let l : length h.1 ≡ s.0.0 = h.3.0 in
+    let e : length h.1 ≡ length (spelled_all units) = ap length (h.3.2 ∙ ap spelled_all s.2) in
     let k : length (spelled_all units) < 2 ^ 16 = omega arith in
     lt-ltb _ _ k
 

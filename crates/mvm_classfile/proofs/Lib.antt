@@ -9,3 +9,5 @@ pub mod Methods
 pub mod Whole
 pub mod Shorter
 pub mod Made
+pub mod Kept
+pub mod Codes

@@ -1,5 +1,7 @@
 -- The parts of a class file can be written, and what is written of them reads as them.
 use Rattle.std.proofs.Common.{◌≡◌, ℕ, ◌+◌, ◌<◌, ◌≤◌, ◌^◌, Bool, true, List, [], ◌++◌, length, Result, Ok, refl, sym, ap, subst, ◌∙◌, length-append, append_assoc, arith}
+use Rattle.mvm_base.proofs.Bytes.{left_bytes, right_bytes}
+use Rattle.mvm_base.specs.Bytes.{AreBytes}
 use Rattle.std.specs.Prelude.{nat_lt, map}
 use Rattle.std.specs.List.{flat_map, list_all}
 use Rattle.std.proofs.lemmas.Bool.{lt-ltb}
@@ -18,25 +20,21 @@ use Rattle.mvm_base.specs.Rules.{each_after}
 use Rattle.mvm_shape.specs.Members.{field_rule, method_rule, field_part, method_part}
 use Rattle.mvm_layout.specs.Flags.{is_interface}
 use Rattle.mvm_shape.specs.Shape.{parts_of}
-use Rattle.mvm_classfile.specs.Reading.{AreBytes, IsClassFile}
+use Rattle.mvm_classfile.specs.Reading.{IsClassFile}
 use Rattle.mvm_classfile.specs.Writing.{u2, u4, names_in, written_pool, written_member, written_members, written, fits_code, lists_fit, has_few_bytes, is_countable, fits, rebuilt}
-use Rattle.mvm_classfile.proofs.Plain.{left_bytes, right_bytes, counted_lt}
+use Rattle.mvm_classfile.proofs.Plain.{counted_lt}
 use Rattle.mvm_classfile.proofs.Items.{pool_plain, PoolShort, pool_short}
 use Rattle.mvm_classfile.proofs.Pieces.{MemberFits, member_fits, counted_each, interfaces_plain, interfaces_lt, at_least_two}
 use Rattle.mvm_classfile.proofs.Rule.{kept, and_again}
 use Rattle.mvm_classfile.proofs.Shorter.{fields_shorter, methods_short, fields_rows}
 use Rattle.mvm_classfile.proofs.Answered.{reading-complete}
-use Rattle.mvm_classfile.proofs.Whole.{rules_kept, written_again}
+use Rattle.mvm_classfile.proofs.Whole.{members_lt, rules_kept, written_again}
 
 -- the written form of these members
 abbrev written_list : List Item → List Member → List ℕ
 written_list pool ms = u2 (length ms) ++ flat_map (written_member (names_in pool)) ms
 
 -- ---- members
-
-members_count : (ms : List MemberInfo) (at : ℕ) (t : List ℕ) → AreBytes t → members.spells ms at t → length ms < 256 ^ 2
-unfolding members
-members_count ms at t b s = counted_lt member ms at t b s
 
 fields_room : (pool : List Item) (is : Bool) (ms : List MemberInfo) (at : ℕ) (t : List ℕ) → AreBytes t → members.spells ms at t → each_after [] (field_rule pool is) ms ≡ kept → length (written_list pool (map (field_part pool) ms)) ≤ length t
 unfolding members
@@ -52,13 +50,13 @@ record Methods (pool : List Item) (ms : List MemberInfo) (t : List ℕ) : Type 0
   rows : list_all (λ (x : Member). fits_code x.code) (map (method_part pool) ms) ≡ true
   bytes : list_all (λ (x : Member). has_few_bytes x.code) (map (method_part pool) ms) ≡ true
 
-methods_room : (pool : List Item) (is : Bool) (ms : List MemberInfo) (at : ℕ) (t : List ℕ) → AreBytes t → members.spells ms at t → each_after [] (method_rule pool is) ms ≡ kept → Methods pool ms t
+methods_room : (pool : List Item) (version : ℕ) (is : Bool) (ms : List MemberInfo) (at : ℕ) (t : List ℕ) → AreBytes t → members.spells ms at t → each_after [] (method_rule pool version is) ms ≡ kept → Methods pool ms t
 unfolding members
-methods_room pool is ms at t b s k =
+methods_room pool version is ms at t b s k =
     let h = s.1 in
     let fits = counted_each member MemberFits member_fits ms at t b s in
     let len : length t ≡ length h.0 + length h.1 = ap length h.4 ∙ length-append h.0 h.1 in
-    let one = methods_short pool (names_in pool) is [] s.0.0 ms (at + length h.0) h.1 (subst (λ (z : List MemberInfo). spells_times member s.0.0 z (at + length h.0) h.1) s.2 h.3) fits k in
+    let one = methods_short pool (names_in pool) version is [] s.0.0 ms (at + length h.0) h.1 (subst (λ (z : List MemberInfo). spells_times member s.0.0 z (at + length h.0) h.1) s.2 h.3) fits k in
     record { room = omega (arith, len, one.room, h.2.0); rows = one.rows; bytes = one.bytes }
 
 -- ---- the whole
@@ -85,9 +83,9 @@ record BodyShort (pool : List Item) (x : Body) (t : List ℕ) : Type 0 where
 pieces : (s t text : List ℕ) → text ≡ s ++ t → length text ≡ length s + length t
 pieces s t text e = ap length e ∙ length-append s t
 
-body_short : (pool : List Item) (is : Bool) (x : Body) (at : ℕ) (t : List ℕ) → AreBytes t → body.spells x at t → each_after [] (field_rule pool is) x.1.1.1.1.0 ≡ kept → each_after [] (method_rule pool is) x.1.1.1.1.1.0 ≡ kept → BodyShort pool x t
+body_short : (pool : List Item) (version : ℕ) (is : Bool) (x : Body) (at : ℕ) (t : List ℕ) → AreBytes t → body.spells x at t → each_after [] (field_rule pool is) x.1.1.1.1.0 ≡ kept → each_after [] (method_rule pool version is) x.1.1.1.1.1.0 ≡ kept → BodyShort pool x t
 unfolding body
-body_short pool is x at t b h fk mk =
+body_short pool version is x at t b h fk mk =
     let b1 = right_bytes t h.0 h.1 h.4 b in
     let i = h.3 in
     let b2 = right_bytes h.1 i.0 i.1 i.4 b1 in
@@ -103,12 +101,12 @@ body_short pool is x at t b h fk mk =
     let c5 = left_bytes l.1 m.0 m.1 m.4 b5 in
     let is_text : length k.0 ≡ length (u2 (length x.1.1.1.0) ++ flat_map u2 x.1.1.1.0) = ap length (interfaces_plain.written x.1.1.1.0 _ k.0 c3 k.2) in
     let f = fields_room pool is x.1.1.1.1.0 _ l.0 c4 l.2 fk in
-    let ms = methods_room pool is x.1.1.1.1.1.0 _ m.0 c5 m.2 mk in
+    let ms = methods_room pool version is x.1.1.1.1.1.0 _ m.0 c5 m.2 mk in
     let n = at_least_two x.1.1.1.1.1.1 _ m.1 m.3 in
     record {
       interfaces = interfaces_lt x.1.1.1.0 _ k.0 c3 k.2;
-      fields = members_count x.1.1.1.1.0 _ l.0 c4 l.2;
-      methods = members_count x.1.1.1.1.1.0 _ m.0 c5 m.2;
+      fields = members_lt x.1.1.1.1.0 _ l.0 c4 l.2;
+      methods = members_lt x.1.1.1.1.1.0 _ m.0 c5 m.2;
       rows = ms.rows;
       bytes = ms.bytes;
       room = omega (arith, pieces h.0 h.1 t h.4, h.2.1.0, pieces i.0 i.1 h.1 i.4, i.2.0, pieces j.0 j.1 i.1 j.4, j.2.0, pieces k.0 k.1 j.1 k.4, is_text, pieces l.0 l.1 k.1 l.4, f, pieces m.0 m.1 l.1 m.4, ms.room, n);
@@ -122,7 +120,7 @@ major_length : (n at : ℕ) (t : List ℕ) → major.spells n at t → length t 
 unfolding major
 major_length n at t s = s.1.0
 
-short : (info : ClassInfo) (at : ℕ) (t : List ℕ) → AreBytes t → layout.spells info at t → each_after [] (field_rule info.pool (is_interface info.flags)) info.fields ≡ kept → each_after [] (method_rule info.pool (is_interface info.flags)) info.methods ≡ kept → Short info t
+short : (info : ClassInfo) (at : ℕ) (t : List ℕ) → AreBytes t → layout.spells info at t → each_after [] (field_rule info.pool (is_interface info.flags)) info.fields ≡ kept → each_after [] (method_rule info.pool info.major (is_interface info.flags)) info.methods ≡ kept → Short info t
 unfolding layout
 short info at t b s fk mk =
     let x = s.0 in
@@ -136,8 +134,8 @@ short info at t b s fk mk =
     let b4 = right_bytes j.1 k.0 k.1 k.4 b3 in
     let c3 = left_bytes j.1 k.0 k.1 k.4 b3 in
     let fx = subst (λ (z : ClassInfo). each_after [] (field_rule z.pool (is_interface z.flags)) z.fields ≡ kept) (sym s.2) fk in
-    let mx = subst (λ (z : ClassInfo). each_after [] (method_rule z.pool (is_interface z.flags)) z.methods ≡ kept) (sym s.2) mk in
-    let f = body_short x.1.1.1.0 (is_interface (info_of x).flags) x.1.1.1.1 _ k.1 b4 k.3 fx mx in
+    let mx = subst (λ (z : ClassInfo). each_after [] (method_rule z.pool z.major (is_interface z.flags)) z.methods ≡ kept) (sym s.2) mk in
+    let f = body_short x.1.1.1.0 (info_of x).major (is_interface (info_of x).flags) x.1.1.1.1 _ k.1 b4 k.3 fx mx in
     let p : length k.0 ≡ length (written_pool x.1.1.1.0) = ap length (pool_plain.written x.1.1.1.0 _ k.0 c3 k.2) in
     let made : Short (info_of x) t = record {
       pool = pool_short x.1.1.1.0 _ k.0 c3 k.2;

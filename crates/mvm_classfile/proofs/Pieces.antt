@@ -1,5 +1,7 @@
 -- Attributes, members and code by their pieces: what fits where it is spelled, and what spells what is built anew.
 use Rattle.std.proofs.Common.{◌≡◌, ℕ, zero, suc, ◌+◌, ◌<◌, ◌≤◌, ◌^◌, Bool, true, false, ◌&&◌, Some, List, [], ◌∷◌, ◌++◌, length, refl, sym, ap, subst, ◌∙◌, length-append, append_assoc, arith}
+use Rattle.mvm_base.proofs.Bytes.{left_bytes, right_bytes}
+use Rattle.mvm_base.specs.Bytes.{AreBytes}
 use Rattle.std.specs.Prelude.{nat_le}
 use Rattle.std.specs.List.{flat_map}
 use Rattle.std.proofs.lemmas.Bool.{leb-true}
@@ -11,9 +13,8 @@ use Rattle.mvm_layout.specs.declared.parts.Code.{Code}
 use Rattle.mvm_layout.specs.declared.parts.Row.{Row}
 use Rattle.mvm_layout.specs.declared.info.MemberInfo.{MemberInfo}
 use Rattle.mvm_layout.specs.declared.info.CodeInfo.{CodeInfo}
-use Rattle.mvm_classfile.specs.Reading.{AreBytes}
 use Rattle.mvm_classfile.specs.Writing.{u2, u4, written_attribute, written_row, written_code}
-use Rattle.mvm_classfile.proofs.Plain.{Plain, left_bytes, right_bytes, number_lt, number_again, plain_u2, plain_u4, plain_bytes, plain_followed, plain_mapped, plain_passing, plain_counted, counted_lt}
+use Rattle.mvm_classfile.proofs.Plain.{both_hold, passes, Plain, number_lt, number_again, plain_u2, plain_u4, plain_bytes, plain_followed, plain_mapped, plain_passing_at, plain_counted, counted_lt}
 
 -- it holds of each of them
 abbrev pub Each : {A : Type 0} → (A → Type 0) → List A → Type 0
@@ -144,7 +145,7 @@ content_plain =
 
 instructions_plain : Plain instructions (λ text. u4 (length text) ++ text)
 unfolding instructions
-instructions_plain = plain_passing _ _ content (λ text. u4 (length text) ++ text) content_plain
+instructions_plain = plain_passing_at _ _ content (λ text. u4 (length text) ++ text) content_plain
 
 pub record CodeFits (c : Code) (old : List ℕ) : Type 0 where
   pub spelled : (at : ℕ) → code.spells (record { code = c; attributes = [] }) at (written_code c)
@@ -152,24 +153,23 @@ pub record CodeFits (c : Code) (old : List ℕ) : Type 0 where
   pub rows : length c.rows < 256 ^ 2
   pub bytes : length c.bytes ≤ 65535
 
-second_holds : (a b : Bool) → (a && b) ≡ true → b ≡ true
-second_holds true b h = h
-second_holds false b h = absurd cc
+-- 1 to 65,535 bytes
+abbrev pub IsCodeLength : List ℕ → Type 0
+IsCodeLength bytes = (1 ≤ length bytes) × (length bytes ≤ 65535)
 
-few_passed : (test : Bool) (old new : List ℕ) → (test && nat_le (length old) 65535) ≡ true → if_passing true old ≡ Some new → length new ≤ 65535
-few_passed test old new h e =
-    let same : old ≡ new = cc in
-    subst (λ (z : List ℕ). length z ≤ 65535) same (leb-true _ _ (second_holds test _ h))
+length_passed : (passing : Bool) (old new : List ℕ) → (nat_le 1 (length old) && nat_le (length old) 65535) ≡ passing → if_passing passing old ≡ Some new → IsCodeLength new
+length_passed true old new h e = let b = both_hold _ _ h in subst IsCodeLength (passes true old new e) (leb-true _ _ b.0, leb-true _ _ b.1)
+length_passed false old new h e = absurd cc
 
-few_bytes_at : (test passes : Bool) (old new : List ℕ) → (test && nat_le (length old) 65535) ≡ passes → if_passing passes old ≡ Some new → length new ≤ 65535
-few_bytes_at test true old new h e = few_passed test old new h e
-few_bytes_at test false old new h e = absurd cc
-
-few_bytes : (new : List ℕ) (at : ℕ) (text : List ℕ) → instructions.spells new at text → length new ≤ 65535
+instructions_length : (new : List ℕ) (at : ℕ) (text : List ℕ) → instructions.spells new at text → IsCodeLength new
 unfolding instructions
-few_bytes new at text s = few_bytes_at (nat_le 1 (length s.0)) _ s.0 new refl s.2
+instructions_length new at text s = length_passed _ s.0 new refl s.2
 
-no_attributes : (at : ℕ) → attributes.spells [] at (u2 0)
+pub code_length : (info : CodeInfo) (at : ℕ) (text : List ℕ) → code.spells info at text → IsCodeLength info.code.bytes
+unfolding code
+code_length info at text s = let j = s.1.3.3 in subst (λ (z : CodeInfo). IsCodeLength z.code.bytes) s.2 (instructions_length _ _ j.0 j.2)
+
+pub no_attributes : (at : ℕ) → attributes.spells [] at (u2 0)
 unfolding attributes
 no_attributes at = counted_again attribute 0 [] at [] (omega arith) (refl, refl)
 
@@ -237,4 +237,4 @@ code_fits info at text b s =
     let whole : length (written_code (code_of x).code) ≡ 2 + (2 + (length (u4 (length x.1.1.0) ++ x.1.1.0) + (length (u2 (length x.1.1.1.0) ++ flat_map written_row x.1.1.1.0) + 2))) = sym (ap length grouped) ∙ lengths (u2 x.0) (u2 x.1.0) (u4 (length x.1.1.0) ++ x.1.1.0) (u2 (length x.1.1.1.0) ++ flat_map written_row x.1.1.1.0) (u2 0) in
     let short : length (written_code (code_of x).code) ≤ length text = no_longer (length h.0) (length i.0) _ _ _ (length text) (length h.1) (length i.1) (length j.1) (length k.1)
     (ap length h.4 ∙ length-append h.0 h.1) (ap length i.4 ∙ length-append i.0 i.1) (ap length j.4 ∙ length-append j.0 j.1 ∙ ap (λ (z : ℕ). z + length j.1) e3) (ap length k.4 ∙ length-append k.0 k.1 ∙ ap (λ (z : ℕ). z + length k.1) e4) e1 e2 m whole in
-    subst (λ (z : CodeInfo). CodeFits z.code text) s.2 (record { spelled = spelled; short = short; rows = rows_lt x.1.1.1.0 (((at + length h.0) + length i.0) + length j.0) k.0 (left_bytes j.1 k.0 k.1 k.4 b3) k.2; bytes = few_bytes x.1.1.0 _ j.0 j.2 })
+    subst (λ (z : CodeInfo). CodeFits z.code text) s.2 (record { spelled = spelled; short = short; rows = rows_lt x.1.1.1.0 (((at + length h.0) + length i.0) + length j.0) k.0 (left_bytes j.1 k.0 k.1 k.4 b3) k.2; bytes = (instructions_length x.1.1.0 _ j.0 j.2).1 })

@@ -1,33 +1,28 @@
 -- Formats that say nothing of places: what spells a value at one place spells it at any, and is the written form of it.
-use Rattle.std.proofs.Common.{◌≡◌, ℕ, zero, suc, ◌+◌, ◌<◌, ◌^◌, Bool, true, false, List, [], ◌∷◌, ◌++◌, length, Some, refl, sym, ap, subst, ◌∙◌, append-nil, arith}
+use Rattle.std.proofs.Common.{◌≡◌, ℕ, zero, suc, ◌+◌, ◌<◌, ◌^◌, Bool, true, false, not, ◌&&◌, List, [], ◌∷◌, ◌++◌, length, Some, refl, sym, ap, subst, ◌∙◌, append-nil, arith}
+use Rattle.mvm_base.proofs.Bytes.{left_bytes, right_bytes}
+use Rattle.mvm_base.specs.Bytes.{AreBytes}
 use Rattle.std.specs.List.{flat_map}
 use Rattle.std.proofs.lemmas.Nat.{be_bytes_2, be_bytes_4, be_bytes_8}
 use Rattle.byteorder.specs.Numbers.{big_from-lt, big_number-reads_back, length-bytes_high_first}
 use Rattle.mvm_base.specs.Endian.{big_number, big_bytes}
-use Rattle.mvm_layout.specs.Format.{Format, bytes, number, given, followed, mapped, if_passing, passing, spells_times, times, counted}
+use Rattle.mvm_layout.specs.Format.{Format, bytes, number, given, followed, mapped, if_passing, passing, passing_at, spells_times, times, counted}
 use Rattle.mvm_layout.specs.declared.fault.ClassFault.{ClassFault}
-use Rattle.mvm_classfile.specs.Reading.{AreBytes}
 use Rattle.mvm_classfile.specs.Writing.{u1, u2, u4}
 
--- ---- bytes
+-- ---- tests
 
-at_each : (x : ℕ) (s : List ℕ) → x < 256 → AreBytes s → AreBytes (x ∷ s)
-at_each x s one more zero = one
-at_each x s one more (suc i) = more i
+pub both_hold : (a b : Bool) → (a && b) ≡ true → (a ≡ true) × (b ≡ true)
+both_hold true b h = (refl, h)
+both_hold false b h = absurd cc
 
-pub bytes_front : (s t : List ℕ) → AreBytes (s ++ t) → AreBytes s
-bytes_front [] t h = λ i. omega arith
-bytes_front (x ∷ s) t h = at_each x s (h 0) (bytes_front s t (λ i. h (suc i)))
+pub not_true : (b : Bool) → not b ≡ true → b ≡ false
+not_true true h = absurd cc
+not_true false h = refl
 
-pub bytes_back : (s t : List ℕ) → AreBytes (s ++ t) → AreBytes t
-bytes_back [] t h = h
-bytes_back (x ∷ s) t h = bytes_back s t (λ i. h (suc i))
-
-pub left_bytes : (text s t : List ℕ) → text ≡ s ++ t → AreBytes text → AreBytes s
-left_bytes text s t e b = bytes_front s t (subst AreBytes e b)
-
-pub right_bytes : (text s t : List ℕ) → text ≡ s ++ t → AreBytes text → AreBytes t
-right_bytes text s t e b = bytes_back s t (subst AreBytes e b)
+pub passes : {A : Type 0} (b : Bool) (x y : A) → if_passing b x ≡ Some y → x ≡ y
+passes true x y e = cc
+passes false x y e = absurd cc
 
 -- ---- numbers
 
@@ -83,12 +78,14 @@ plain_mapped h F u w f same = record {
   written = λ y at text b s. f.written s.0 at text b s.1 ∙ same s.0 at text b s.1 ∙ ap w s.2;
 }
 
-passes : {A : Type 0} (b : Bool) (x y : A) → if_passing b x ≡ Some y → x ≡ y
-passes true x y e = cc
-passes false x y e = absurd cc
-
 pub plain_passing : {A : Type 0} (test : A → Bool) (fault : A → ClassFault) (F : Format A) (u : A → List ℕ) → Plain F u → Plain (passing test fault F) u
 plain_passing test fault F u f = record {
+  moves = λ y at other text s. (s.0, f.moves s.0 at other text s.1, s.2);
+  written = λ y at text b s. f.written s.0 at text b s.1 ∙ ap u (passes (test s.0) s.0 y s.2);
+}
+
+pub plain_passing_at : {A : Type 0} (test : A → Bool) (fault : ℕ → ClassFault) (F : Format A) (u : A → List ℕ) → Plain F u → Plain (passing_at test fault F) u
+plain_passing_at test fault F u f = record {
   moves = λ y at other text s. (s.0, f.moves s.0 at other text s.1, s.2);
   written = λ y at text b s. f.written s.0 at text b s.1 ∙ ap u (passes (test s.0) s.0 y s.2);
 }

@@ -24,10 +24,6 @@ holds_true false fault e = absurd cc
 pub holds_again : (b : Bool) (fault : ClassFault) → b ≡ true → expect b fault ≡ kept
 holds_again b fault e = rw e refl
 
-pub both_hold : (a b : Bool) → (a && b) ≡ true → (a ≡ true) × (b ≡ true)
-both_hold true b h = (refl, h)
-both_hold false b h = absurd cc
-
 pub and_again : (a b : Bool) → a ≡ true → b ≡ true → (a && b) ≡ true
 and_again a b h k = rw (h, k) refl
 
@@ -41,14 +37,20 @@ both_again r next h k = rw (h, k) refl
 
 -- ---- descriptors
 
+-- what is parsed, where the rule on it is kept
+pub parsed_is : {A : Type 0} (at : ℕ) (test : A → Bool) (r : Result A DescFault) → parsed at test r ≡ kept → (x : A) × (r ≡ Ok x) × (test x ≡ true)
+parsed_is at test (Ok x) e = (x, refl, holds_true (test x) _ e)
+parsed_is at test (Err desc_fault.Float) e = absurd cc
+parsed_is at test (Err desc_fault.Empty) e = absurd cc
+parsed_is at test (Err (desc_fault.BadLetter n)) e = absurd cc
+parsed_is at test (Err desc_fault.Open) e = absurd cc
+parsed_is at test (Err desc_fault.Trailing) e = absurd cc
+parsed_is at test (Err desc_fault.OutOfMemory) e = absurd cc
+
 parsed_again : {A : Type 0} (at other : ℕ) (test : A → Bool) (r : Result A DescFault) → parsed at test r ≡ kept → parsed other test r ≡ kept
-parsed_again at other test (Ok shape) e = holds_again (test shape) _ (holds_true (test shape) _ e)
-parsed_again at other test (Err desc_fault.Float) e = absurd cc
-parsed_again at other test (Err desc_fault.Empty) e = absurd cc
-parsed_again at other test (Err (desc_fault.BadLetter n)) e = absurd cc
-parsed_again at other test (Err desc_fault.Open) e = absurd cc
-parsed_again at other test (Err desc_fault.Trailing) e = absurd cc
-parsed_again at other test (Err desc_fault.OutOfMemory) e = absurd cc
+parsed_again at other test r e =
+    let p = parsed_is at test r e in
+    subst (λ (z : Result _ DescFault). parsed other test z ≡ kept) (sym p.1) (holds_again (test p.0) _ p.2)
 
 pub field_desc_again : (at other : ℕ) (desc : Option (List ℕ)) → field_descriptor at desc ≡ kept → field_descriptor other desc ≡ kept
 field_desc_again at other None e = absurd cc

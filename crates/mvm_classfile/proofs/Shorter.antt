@@ -15,12 +15,12 @@ use Rattle.mvm_layout.specs.declared.info.CodeInfo.{CodeInfo}
 use Rattle.mvm_layout.proofs.Layouts.{code_in-sound}
 use Rattle.mvm_base.specs.Rules.{each_after}
 use Rattle.mvm_layout.specs.Flags.{is_static}
-use Rattle.mvm_shape.specs.Members.{is_named, field_rule, method_rule, first, index_in, field_part, code_of_info, code_of, method_part}
+use Rattle.mvm_shape.specs.Members.{is_named, is_repeated, field_rule, method_rule, first, index_in, field_part, code_of_info, code_of, method_part}
 use Rattle.mvm_classfile.specs.Writing.{Names, written_code, written_member, fits_code, has_few_bytes}
-use Rattle.mvm_classfile.proofs.Pieces.{Each, MemberFits, CodeFits, code_fits, at_least_two}
+use Rattle.mvm_classfile.proofs.Pieces.{Each, AttributeFits, MemberFits, CodeFits, code_fits, at_least_two}
 use Rattle.mvm_classfile.proofs.Rule.{kept, both}
 use Rattle.mvm_classfile.proofs.Fields.{constant_length}
-use Rattle.mvm_classfile.proofs.Methods.{first_code}
+use Rattle.mvm_classfile.proofs.Methods.{method_kept, first_code}
 
 -- ---- attributes
 
@@ -129,16 +129,18 @@ code_short pool m (a ∷ more) t x f has =
     let made : CodeShort (code_of_info (Some c.0)) t = record { room = omega (arith, l, x.longer, c.2.short); rows = lt-ltb _ _ (omega (arith, c.2.rows)); bytes = le-leb _ _ c.2.bytes } in
     subst (λ (o : Option CodeInfo). CodeShort (code_of_info o) t) (sym c.1) made
 
-has_code : (pool : List Item) (is_interface : Bool) (before : List MemberInfo) (m : MemberInfo) → MemberFits m → method_rule pool is_interface before m ≡ kept
+has_code : (pool : List Item) (major : ℕ) (is_interface : Bool) (before : List MemberInfo) (m : MemberInfo) → MemberFits m → method_rule pool major is_interface before m ≡ kept
     → (a : AttributeParts) (more : List AttributeParts) → filter (is_named pool (codes "Code")) m.attributes ≡ a ∷ more → (info : CodeInfo) × (code_in a ≡ Some info) × CodeFits info.code a.content
-has_code pool is_interface before m fits k a more f =
-    let c = first_code pool is_interface before m a more fits f k in
+unfolding method_rule
+has_code pool major is_interface before m fits k a more f =
+    let rule = (method_kept pool major is_interface (is_repeated pool before m) m k).0.attributes in
+    let c = first_code pool AttributeFits m.attributes a more fits.attributes f rule in
     (c.1.info, c.1.is, code_fits c.1.info (a.at + 6) a.content c.0.bytes (code_in-sound a c.1.info c.1.is))
 
-method_short : (pool : List Item) (is_interface : Bool) (before : List MemberInfo) (m : MemberInfo) (at : ℕ) (t : List ℕ) → member.spells m at t → MemberFits m → method_rule pool is_interface before m ≡ kept → CodeShort (method_part pool m).code t
+method_short : (pool : List Item) (major : ℕ) (is_interface : Bool) (before : List MemberInfo) (m : MemberInfo) (at : ℕ) (t : List ℕ) → member.spells m at t → MemberFits m → method_rule pool major is_interface before m ≡ kept → CodeShort (method_part pool m).code t
 unfolding method_part
-method_short pool is_interface before m at t s fits k =
-    code_short pool m (filter (is_named pool (codes "Code")) m.attributes) t (member_text m at t s) refl (λ a more f. has_code pool is_interface before m fits k a more f)
+method_short pool major is_interface before m at t s fits k =
+    code_short pool m (filter (is_named pool (codes "Code")) m.attributes) t (member_text m at t s) refl (λ a more f. has_code pool major is_interface before m fits k a more f)
 
 method_shorter : (pool : List Item) (names : Names) (m : MemberInfo) (t : List ℕ) → CodeShort (method_part pool m).code t → length (written_member names (method_part pool m)) ≤ length t
 unfolding method_part
@@ -163,15 +165,15 @@ pub record MethodsShort (pool : List Item) (names : Names) (ms : List MemberInfo
   pub rows : list_all (λ (x : Member). fits_code x.code) (map (method_part pool) ms) ≡ true
   pub bytes : list_all (λ (x : Member). has_few_bytes x.code) (map (method_part pool) ms) ≡ true
 
-pub methods_short : (pool : List Item) (names : Names) (is_interface : Bool) (before : List MemberInfo) (n : ℕ) (ms : List MemberInfo) (at : ℕ) (t : List ℕ) → spells_times member n ms at t → Each MemberFits ms → each_after before (method_rule pool is_interface) ms ≡ kept
+pub methods_short : (pool : List Item) (names : Names) (major : ℕ) (is_interface : Bool) (before : List MemberInfo) (n : ℕ) (ms : List MemberInfo) (at : ℕ) (t : List ℕ) → spells_times member n ms at t → Each MemberFits ms → each_after before (method_rule pool major is_interface) ms ≡ kept
     → MethodsShort pool names ms t
-methods_short pool names is_interface before n [] at t s fits k = record { room = omega arith; rows = refl; bytes = refl }
-methods_short pool names is_interface before zero (m ∷ ms) at t s fits k = absurd (let e = s.0 in cc)
-methods_short pool names is_interface before (suc n) (m ∷ ms) at t s fits k =
-    let r = both (method_rule pool is_interface before m) (each_after (before ++ m ∷ []) (method_rule pool is_interface) ms) tt k in
-    let one = method_short pool is_interface before m at s.0 s.2 fits.0 r.0 in
+methods_short pool names major is_interface before n [] at t s fits k = record { room = omega arith; rows = refl; bytes = refl }
+methods_short pool names major is_interface before zero (m ∷ ms) at t s fits k = absurd (let e = s.0 in cc)
+methods_short pool names major is_interface before (suc n) (m ∷ ms) at t s fits k =
+    let r = both (method_rule pool major is_interface before m) (each_after (before ++ m ∷ []) (method_rule pool major is_interface) ms) tt k in
+    let one = method_short pool major is_interface before m at s.0 s.2 fits.0 r.0 in
     let shorter = method_shorter pool names m s.0 one in
-    let more = methods_short pool names is_interface (before ++ m ∷ []) n ms (at + length s.0) s.1 s.3 fits.1 r.1 in
+    let more = methods_short pool names major is_interface (before ++ m ∷ []) n ms (at + length s.0) s.1 s.3 fits.1 r.1 in
     let len : length t ≡ length s.0 + length s.1 = ap length s.4 ∙ length-append s.0 s.1 in
     let all = length-append (written_member names (method_part pool m)) (flat_map (written_member names) (map (method_part pool) ms)) in
     record { room = omega (arith, shorter, more.room, len, all); rows = rw (one.rows, more.rows) refl; bytes = rw (one.bytes, more.bytes) refl }

@@ -1,9 +1,11 @@
 -- What is written of a class file reads as the class file again.
 use Rattle.std.proofs.Common.{◌≡◌, ℕ, ◌+◌, ◌*◌, ◌<◌, ◌^◌, Bool, true, false, List, [], ◌∷◌, ◌++◌, length, Some, refl, sym, ap, subst, ◌∙◌, append_assoc, arith}
+use Rattle.mvm_base.proofs.Bytes.{left_bytes, right_bytes}
+use Rattle.mvm_base.specs.Bytes.{AreBytes}
 use Rattle.std.specs.Prelude.{map, codes}
 use Rattle.std.specs.List.{flat_map}
 use Rattle.std.proofs.lemmas.List.{length-map}
-use Rattle.mvm_layout.specs.Format.{if_passing, spells_times}
+use Rattle.mvm_layout.specs.Format.{spells_times}
 use Rattle.mvm_layout.specs.Entries.{pool}
 use Rattle.mvm_layout.specs.Layout.{attribute, attributes, member, members, interfaces, magic, major, body, Body, info_of, layout}
 use Rattle.mvm_layout.specs.declared.fault.ClassFault.TheVariants.{Shape}
@@ -17,39 +19,35 @@ use Rattle.mvm_base.specs.Rules.{expect, each_from, each_after}
 use Rattle.mvm_shape.specs.Members.{field_rule, method_rule, field_part, method_part}
 use Rattle.mvm_layout.specs.Flags.{is_interface}
 use Rattle.mvm_shape.specs.Shape.{linked, has_superclass, are_interfaces, header, rules, parts_of}
-use Rattle.mvm_classfile.specs.Reading.{AreBytes, Reads, IsClassFile}
+use Rattle.mvm_classfile.specs.Reading.{Reads, IsClassFile}
 use Rattle.mvm_classfile.specs.Writing.{u2, u4, names_in, written_pool, written_member, written_members, written}
-use Rattle.mvm_classfile.proofs.Plain.{left_bytes, right_bytes, number_lt, number_again, plain_u2, counted_lt}
+use Rattle.mvm_classfile.proofs.Plain.{passes, number_lt, number_again, plain_u2, counted_lt}
 use Rattle.mvm_classfile.proofs.Items.{pool_plain}
 use Rattle.mvm_classfile.proofs.Named.{name_index_is}
-use Rattle.mvm_classfile.proofs.Pieces.{Each, MemberFits, member_fits, counted_each, counted_again, again, interfaces_plain}
+use Rattle.mvm_classfile.proofs.Pieces.{Each, MemberFits, member_fits, counted_each, counted_again, no_attributes, again, interfaces_plain}
 use Rattle.mvm_classfile.proofs.Rule.{kept, holds_true, holds_again, both, both_again}
 use Rattle.mvm_classfile.proofs.Fields.{Serves, fields_again}
 use Rattle.mvm_classfile.proofs.Methods.{methods_again}
 
 -- ---- what a class file that is spelled has
 
-record InfoFits (info : ClassInfo) : Type 0 where
-  minor : info.minor < 256 ^ 2
-  major : (at : ℕ) → major.spells info.major at (u2 info.major)
-  pool : (at : ℕ) → pool.spells info.pool at (written_pool info.pool)
-  flags : info.flags < 256 ^ 2
-  this_class : info.this_class < 256 ^ 2
-  super_class : info.super_class < 256 ^ 2
-  interfaces : (at : ℕ) → interfaces.spells info.interfaces at (u2 (length info.interfaces) ++ flat_map u2 info.interfaces)
-  fields : Each MemberFits info.fields
-  field_count : length info.fields < 256 ^ 2
-  methods : Each MemberFits info.methods
-  method_count : length info.methods < 256 ^ 2
-
-passed : (b : Bool) (x y : ℕ) → if_passing b x ≡ Some y → x ≡ y
-passed true x y e = cc
-passed false x y e = absurd cc
+pub record InfoFits (info : ClassInfo) : Type 0 where
+  pub minor : info.minor < 256 ^ 2
+  pub major : (at : ℕ) → major.spells info.major at (u2 info.major)
+  pub pool : (at : ℕ) → pool.spells info.pool at (written_pool info.pool)
+  pub flags : info.flags < 256 ^ 2
+  pub this_class : info.this_class < 256 ^ 2
+  pub super_class : info.super_class < 256 ^ 2
+  pub interfaces : (at : ℕ) → interfaces.spells info.interfaces at (u2 (length info.interfaces) ++ flat_map u2 info.interfaces)
+  pub fields : Each MemberFits info.fields
+  pub field_count : length info.fields < 256 ^ 2
+  pub methods : Each MemberFits info.methods
+  pub method_count : length info.methods < 256 ^ 2
 
 major_again : (n at other : ℕ) (t : List ℕ) → AreBytes t → major.spells n at t → major.spells n other (u2 n)
 unfolding major
 major_again n at other t b s =
-    let e : s.0 ≡ n = passed _ s.0 n s.2 in
+    let e : s.0 ≡ n = passes _ s.0 n s.2 in
     let w : t ≡ u2 n = plain_u2.written s.0 at t b s.1 ∙ ap u2 e in
     subst (λ (z : List ℕ). major.spells n other z) w s
 
@@ -57,7 +55,7 @@ members_each : (ms : List MemberInfo) (at : ℕ) (t : List ℕ) → AreBytes t �
 unfolding members
 members_each ms at t b s = counted_each member MemberFits member_fits ms at t b s
 
-members_lt : (ms : List MemberInfo) (at : ℕ) (t : List ℕ) → AreBytes t → members.spells ms at t → length ms < 256 ^ 2
+pub members_lt : (ms : List MemberInfo) (at : ℕ) (t : List ℕ) → AreBytes t → members.spells ms at t → length ms < 256 ^ 2
 unfolding members
 members_lt ms at t b s = counted_lt member ms at t b s
 
@@ -97,7 +95,7 @@ body_fits x at t b h =
       method_count = members_lt x.1.1.1.1.1.0 _ m.0 c5 m.2;
     }
 
-info_fits : (info : ClassInfo) (at : ℕ) (t : List ℕ) → AreBytes t → layout.spells info at t → InfoFits info
+pub info_fits : (info : ClassInfo) (at : ℕ) (t : List ℕ) → AreBytes t → layout.spells info at t → InfoFits info
 unfolding layout
 info_fits info at t b s =
     let x = s.0 in
@@ -127,11 +125,11 @@ info_fits info at t b s =
 
 -- ---- the names of the attributes
 
-serves_constant : (pool : List Item) → Serves pool (codes "ConstantValue") (names_in pool).constant
+pub serves_constant : (pool : List Item) → Serves pool (codes "ConstantValue") (names_in pool).constant
 unfolding names_in
 serves_constant pool = record { named = λ other h. (name_index_is pool (codes "ConstantValue") other h).named; low = λ other h. (name_index_is pool (codes "ConstantValue") other h).low }
 
-serves_code : (pool : List Item) → Serves pool (codes "Code") (names_in pool).code
+pub serves_code : (pool : List Item) → Serves pool (codes "Code") (names_in pool).code
 unfolding names_in
 serves_code pool = record { named = λ other h. (name_index_is pool (codes "Code") other h).named; low = λ other h. (name_index_is pool (codes "Code") other h).low }
 
@@ -148,10 +146,6 @@ magic_again at = (0xCAFEBABE, number_again 4 0xCAFEBABE at (omega arith), refl)
 members_again : (ms : List MemberInfo) (n at : ℕ) (t : List ℕ) → n < 256 ^ 2 → spells_times member n ms (at + 2) t → members.spells ms at (u2 n ++ t)
 unfolding members
 members_again ms n at t h s = counted_again member n ms at t h s
-
-none_again : (at : ℕ) → attributes.spells [] at (u2 0)
-unfolding attributes
-none_again at = counted_again attribute 0 [] at [] (omega arith) (refl, refl)
 
 body_again : (place flags this super : ℕ) (is : List ℕ) (fields methods : List MemberInfo) (it ft mt : List ℕ) → flags < 256 ^ 2 → this < 256 ^ 2 → super < 256 ^ 2 → ((at : ℕ) → interfaces.spells is at it)
     → members.spells fields ((((place + 2) + 2) + 2) + length it) ft → members.spells methods (((((place + 2) + 2) + 2) + length it) + length ft) mt
@@ -177,7 +171,7 @@ body_again place flags this super is fields methods it ft mt f t s i fs ms = (
           ft,
           mt ++ u2 0,
           fs,
-          (mt, u2 0, ms, none_again ((((((place + 2) + 2) + 2) + length it) + length ft) + length mt), refl),
+          (mt, u2 0, ms, no_attributes ((((((place + 2) + 2) + 2) + length it) + length ft) + length mt), refl),
           refl,
         ),
         refl,
@@ -237,7 +231,7 @@ header_again info at fields methods e =
 pub record RulesKept (info : ClassInfo) : Type 0 where
   pub header : header info ≡ kept
   pub fields : each_after [] (field_rule info.pool (is_interface info.flags)) info.fields ≡ kept
-  pub methods : each_after [] (method_rule info.pool (is_interface info.flags)) info.methods ≡ kept
+  pub methods : each_after [] (method_rule info.pool info.major (is_interface info.flags)) info.methods ≡ kept
 
 pub rules_kept : (info : ClassInfo) → rules info ≡ kept → RulesKept info
 unfolding rules
@@ -247,7 +241,7 @@ rules_kept info e =
     let c = both _ _ tt b.0 in
     record { header = c.0; fields = c.1; methods = b.1 }
 
-rules_again : (info : ClassInfo) (at : ℕ) (fields methods : List MemberInfo) → header info ≡ kept → each_after [] (field_rule info.pool (is_interface info.flags)) fields ≡ kept → each_after [] (method_rule info.pool (is_interface info.flags)) methods ≡ kept
+rules_again : (info : ClassInfo) (at : ℕ) (fields methods : List MemberInfo) → header info ≡ kept → each_after [] (field_rule info.pool (is_interface info.flags)) fields ≡ kept → each_after [] (method_rule info.pool info.major (is_interface info.flags)) methods ≡ kept
     → rules (moved info at fields methods) ≡ kept
 unfolding rules moved
 rules_again info at fields methods h f m = both_again _ _ (both_again _ _ (both_again _ _ (header_again info at fields methods h) f) m) refl
@@ -303,7 +297,7 @@ info_again info fits link rule =
     let fs = map (field_part info.pool) info.fields in
     let ms = map (method_part info.pool) info.methods in
     let f = fields_again info.pool names (is_interface info.flags) (serves_constant info.pool) [] [] (fields_at info + 2) info.fields fits.fields rule.fields refl in
-    let m = methods_again info.pool names (is_interface info.flags) (serves_code info.pool) [] [] ((fields_at info + length (members_text info fs)) + 2) info.methods fits.methods rule.methods refl in
+    let m = methods_again info.pool names info.major (is_interface info.flags) (serves_code info.pool) [] [] ((fields_at info + length (members_text info fs)) + 2) info.methods fits.methods rule.methods refl in
     let fl : length fs < 256 ^ 2 = rw length-map fits.field_count in
     let ml : length ms < 256 ^ 2 = rw length-map fits.method_count in
     record {

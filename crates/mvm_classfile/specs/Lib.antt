@@ -1,3 +1,4 @@
+pub mod Kept
 pub mod Reading
 pub mod Writing
 pub use Rattle.mvm_layout.specs.Layout

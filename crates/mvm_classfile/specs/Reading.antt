@@ -1,11 +1,19 @@
 -- Class files as a whole (JVM Specification, chapter 4): what bytes read as, and their first fault.
-use Rattle.std.specs.Prelude.{◌≡◌, ◌<◌, ◌^◌, ℕ, List, length, get_or, Option, Some, None, Result, Ok, Err}
+use Rattle.std.specs.Prelude.{◌≡◌, ◌<◌, ◌^◌, ℕ, List, [], ◌∷◌, length, Option, Some, None, Result, Ok, Err}
 use Rattle.mvm_base.specs.Answers.{◌>>=◌}
-use Rattle.mvm_layout.specs.Layout.{layout, laid}
+use Rattle.mvm_base.specs.Bytes.{AreBytes}
+use Rattle.mvm_layout.specs.Layout.{layout, laid, IsCode}
 use Rattle.mvm_layout.specs.declared.fault.ClassFault.{ClassFault}
 use Rattle.mvm_layout.specs.declared.fault.ClassFault.TheVariants.{OutOfMemory}
+use Rattle.mvm_layout.specs.Infos.{AttributeParts}
 use Rattle.mvm_layout.specs.declared.info.ClassInfo.{ClassInfo}
+use Rattle.mvm_layout.specs.declared.info.CodeInfo.{CodeInfo}
+use Rattle.mvm_layout.specs.declared.info.MemberInfo.{MemberInfo}
+use Rattle.mvm_layout.specs.declared.parts.Code.{Code}
+use Rattle.mvm_layout.specs.declared.parts.Item.{Item}
+use Rattle.mvm_layout.specs.declared.parts.Member.{Member}
 use Rattle.mvm_layout.specs.declared.parts.Parts.{Parts}
+use Rattle.mvm_shape.specs.Members.{codes_among}
 use Rattle.mvm_shape.specs.Shape.{linked, rules, parts_of, shaped}
 use Rattle.mvm_shape.specs.Lowest.{IsWrong}
 
@@ -45,10 +53,6 @@ Says text (Ok parts) = Reads text parts
 Says text (Err OutOfMemory) = Unit {0}
 Says text (Err fault) = fault_of text ≡ Some fault
 
--- the items of a list of bytes
-abbrev pub AreBytes : List ℕ → Type 0
-AreBytes text = (place : ℕ) → get_or text place 0 < 256
-
 -- some bytes, fewer than 2^32, read as these parts
 pub record IsClassFile (parts : Parts) : Type 0 where
   pub text : List ℕ
@@ -62,3 +66,26 @@ pub record HasWrong (text : List ℕ) (fault : ClassFault) : Type 0 where
   pub spelled : layout.spells info 0 text
   pub linked : linked info.pool ≡ Ok tt
   pub wrong : IsWrong info fault
+
+-- ---- where the code of methods stands
+
+-- this code is what the content of the one attribute among these that is named Code spells (4.7.3)
+pub record SpellsCode (pool : List Item) (attributes : List AttributeParts) (code : Code) : Type 0 where
+  pub attribute : AttributeParts
+  pub only : codes_among pool attributes ≡ attribute ∷ []
+  pub info : CodeInfo
+  pub spelled : IsCode attribute info
+  pub code_is : code ≡ info.code
+
+-- it is; or none of them is named so, and there is no code
+abbrev pub CodeStands : List Item → List AttributeParts → Option Code → Type 0
+CodeStands pool attributes (Some code) = SpellsCode pool attributes code
+CodeStands pool attributes None = codes_among pool attributes ≡ []
+
+-- what stands in the file as a method is read as this one (4.6)
+pub record ReadsMethod (pool : List Item) (stands : MemberInfo) (method : Member) : Type 0 where
+  pub flags : method.flags ≡ stands.flags
+  pub name : method.name ≡ stands.name
+  pub desc : method.desc ≡ stands.desc
+  pub code : CodeStands pool stands.attributes method.code
+  pub constant : method.constant ≡ None

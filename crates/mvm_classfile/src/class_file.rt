@@ -1,4 +1,5 @@
-ghost use Rattle.std.specs.Prelude.{◌≡◌, IsTrue};
+ghost use Rattle.std.specs.Prelude.{◌≡◌, All, IsTrue};
+ghost use Rattle.mvm_classfile.specs.Kept.{IsLinked, HasClasses, IsClassField, IsClassMethod, AreApart};
 ghost use Rattle.mvm_classfile.specs.Reading.{IsClassFile};
 ghost use Rattle.mvm_classfile.specs.Writing.{is_countable};
 
@@ -39,6 +40,18 @@ impl ClassFile {
         ensures short { IsTrue (is_countable self.now) }
         // They keep the rules of their format.
         ensures keeps { IsClassFile self.now }
+        // Each index in the constant pool names an entry of the kind that it should.
+        ensures linked { IsLinked self.now.pool }
+        // The class, its superclass and its superinterfaces are classes.
+        ensures classes { HasClasses self.now }
+        // Each field has a name, a field's descriptor, and the constant that its descriptor wants if it has one.
+        ensures fields { All (IsClassField self.now.pool) self.now.fields }
+        // No two of them have equal name and descriptor.
+        ensures fields_apart { AreApart self.now.pool self.now.fields }
+        // Each method has a name, a method's descriptor of at most 255 slots, and code unless it is native or abstract.
+        ensures methods { All (IsClassMethod self.now.pool) self.now.methods }
+        // No two of them have equal name and descriptor.
+        ensures methods_apart { AreApart self.now.pool self.now.methods }
     {
         &self.parts
     }

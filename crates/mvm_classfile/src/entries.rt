@@ -4,7 +4,7 @@ ghost use Rattle.std.specs.Prelude.{◌≡◌, ◌++◌, flat_map, length, IfOk,
 ghost use Rattle.mvm_layout.specs.declared.parts.Item.TheVariants.{Utf8};
 ghost use Rattle.mvm_classfile.specs.Writing.{one_index, two_indices, written_item, written_pool, is_text_item, name_index, names_in};
 
-use crate::numbers::{push_count, push_int, push_long, push_u1, push_u2, push_u4, push_u8};
+use crate::write_numbers::{push_count, push_int, push_long, push_u1, push_u2, push_u4, push_u8};
 use mvm_base::{Name, OutOfMemory, encode_mutf8};
 use mvm_layout::Item;
 use std::alloc::{AllocError, Global};

@@ -1,9 +1,10 @@
 ghost use Rattle.std.specs.Prelude.{◌≡◌, ◌≢◌, ◌≤◌, ℕ, ◌⊎◌, List, [], ◌++◌, length, Some};
+ghost use Rattle.std.specs.List.{AllZip};
 ghost use Rattle.mvm_layout.specs.declared.fault.ClassFault.{ClassFault};
 ghost use Rattle.mvm_layout.specs.declared.fault.ClassFault.TheVariants.{Truncated, Trailing};
 ghost use Rattle.mvm_layout.specs.declared.parts.Parts.{Parts};
 ghost use Rattle.mvm_shape.specs.Lowest.{rank};
-ghost use Rattle.mvm_classfile.specs.Reading.{Reads, HasFault, HasWrong, IsParts, fault_of};
+ghost use Rattle.mvm_classfile.specs.Reading.{Reads, ReadsMethod, HasFault, HasWrong, IsParts, fault_of};
 
 /// What holds of all bytes.
 pub fn reading_law()
@@ -19,4 +20,6 @@ pub fn reading_law()
     ensures cut { (text more : List ℕ) (parts : Parts) → Reads (text ++ more) parts → more ≢ [] → (place : ℕ) × (place ≤ length text) × (fault_of text ≡ Some (Truncated place)) }
     // What follows a class file is trailing, from its first byte on.
     ensures longer { (text more : List ℕ) (parts : Parts) → Reads text parts → more ≢ [] → fault_of (text ++ more) ≡ Some (Trailing (length text)) }
+    // Each method is read from what stands in the file: its code is what the content of its one Code attribute spells, in its place.
+    ensures methods { (text : List ℕ) (parts : Parts) (reads : Reads text parts) → AllZip (ReadsMethod parts.pool) reads.info.methods parts.methods }
 {}

@@ -4,7 +4,7 @@ ghost use Rattle.std.specs.Prelude.{◌≡◌, ◌++◌, flat_map, length, OnOk}
 ghost use Rattle.mvm_classfile.specs.Writing.{u2, written_row, written_code, written_attribute, constant_attribute, code_attribute, written_attributes, attributes_of, written_member, written_members};
 
 use crate::entries::AttributeNames;
-use crate::numbers::{push_count, push_long_count, push_u2};
+use crate::write_numbers::{push_count, push_long_count, push_u2};
 use mvm_base::OutOfMemory;
 use mvm_layout::{Code, Member, Row};
 use std::alloc::{AllocError, Global};

@@ -26,18 +26,33 @@ pub(crate) fn read_file(alloc: Global, bytes: &[u8]) -> Result<ClassFile, ClassF
     requires { length bytes.now < 2 ^ 32 }
     ensures { AnswersUnless ClassFault.OutOfMemory result (reading bytes.now) }
 {
-    match read_parts(alloc, bytes) {
-        Ok(parts) => Ok(ClassFile::new(parts)),
-        Err(fault) => Err(fault),
-    }
+    let parts = read_parts(alloc, bytes)?;
+    Ok(ClassFile::new(parts))
 }
 
-/// The class file that the bytes are, all of them (JVM Specification, chapter 4), at one step for each, or their first fault.
-/// It takes time in proportion to n log n for n bytes and memory in proportion to them, and keeps no reference to them.
+/// The class file that the bytes are, all of them (JVM Specification, chapter 4), or their first fault, at steps that nobody
+/// counts. It takes time in proportion to n log n for n bytes and memory in proportion to them, and keeps no reference to them.
 ///
 /// # Errors
 ///
 /// The first fault: of the layout, front to back; else of the lowest entry of the constant pool; else at the lowest place.
+pub fn read_uncounted(alloc: Global, bytes: &[u8]) -> Result<ClassFile, ClassFault>
+    requires { length bytes.now < 2 ^ 32 }
+    // What each answer says of the bytes.
+    ensures says { Says bytes.now result }
+    // A class file is read, unless memory runs out.
+    ensures reads { (parts : PartsOf) → Reads bytes.now parts → AnswersUnless ClassFault.OutOfMemory result (Ok parts) }
+    // The first fault is told, unless memory runs out.
+    ensures faults { (fault : Fault) → fault_of bytes.now ≡ Some fault → AnswersUnless ClassFault.OutOfMemory result (Err fault) }
+{
+    read_file(alloc, bytes)
+}
+
+/// What [`read_uncounted`] answers, at one step for each byte of a class file.
+///
+/// # Errors
+///
+/// As there; no step is counted then.
 pub fn read_class<L: Ledger>(
     alloc: Global,
     bytes: &[u8],
@@ -53,11 +68,7 @@ pub fn read_class<L: Ledger>(
     ensures steps { OnOk result (steps.new ≡ steps.old + length bytes.now) }
     ensures refused { OnErr result (steps.new ≡ steps.old) }
 {
-    match read_file(alloc, bytes) {
-        Ok(class) => {
-            steps.rise(bytes.len() as u64);
-            Ok(class)
-        }
-        Err(fault) => Err(fault),
-    }
+    let class = read_uncounted(alloc, bytes)?;
+    steps.rise(bytes.len() as u64);
+    Ok(class)
 }

@@ -5,9 +5,9 @@ ghost use Rattle.mvm_classfile.specs.Writing.{u2, u4, written, rebuilt};
 
 use crate::class_file::ClassFile;
 use crate::entries::{attribute_names, push_pool};
-use crate::fit::lists_fit;
+use crate::counts_fit::lists_fit;
 use crate::members::push_members;
-use crate::numbers::{push_count, push_u2, push_u4};
+use crate::write_numbers::{push_count, push_u2, push_u4};
 use crate::read::read_file;
 use mvm_base::{List, OutOfMemory};
 use mvm_layout::{ClassFault, Parts};

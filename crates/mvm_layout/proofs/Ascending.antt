@@ -1,10 +1,9 @@
 -- In what bytes spell, places ascend.
-use Rattle.std.proofs.Common.{◌≡◌, ℕ, zero, suc, ◌+◌, ◌*◌, ◌<◌, ◌≤◌, List, [], ◌∷◌, ◌++◌, length, Some, Result, Ok, Err, refl, sym, ap, subst, ◌∙◌, arith}
-use Rattle.std.proofs.lemmas.List.{length-append}
+use Rattle.std.proofs.Common.{◌≡◌, ℕ, zero, suc, ◌+◌, ◌*◌, ◌≤◌, List, [], ◌∷◌, length, Some, sym, ap, subst, ◌∙◌, arith}
 use Rattle.mvm_layout.specs.Infos.{AttributeParts}
 use Rattle.mvm_layout.specs.Ascending.{AttributesAscend, MembersAscend, PlacesAscend}
-use Rattle.mvm_layout.specs.Format.{Format, number, followed, mapped, spells_times, counted}
-use Rattle.mvm_layout.specs.Layout.{content, attribute, attributes, member, members, interfaces, instructions, Body, body, layout, rows, row, code, code_in}
+use Rattle.mvm_layout.specs.Format.{spells_times}
+use Rattle.mvm_layout.specs.Layout.{attribute, attributes, member, members, Body, body, layout, code, code_in}
 use Rattle.mvm_layout.specs.declared.info.MemberInfo.{MemberInfo}
 use Rattle.mvm_layout.specs.declared.info.ClassInfo.{ClassInfo}
 use Rattle.mvm_layout.specs.declared.info.CodeInfo.{CodeInfo}

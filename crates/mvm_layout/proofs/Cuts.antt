@@ -1,22 +1,20 @@
 -- Every proper beginning of what spells a value is truncated.
-use Rattle.std.proofs.Common.{◌≡◌, ℕ, zero, suc, ◌+◌, ◌-◌, ◌<◌, ◌≤◌, ◌==◌, ◌||◌, Bool, true, false, cond, ltb, List, [], ◌∷◌, ◌++◌, length, Option, Some, None, Result, Ok, Err, refl, sym, ap, subst, ◌∙◌, append_assoc, arith, inl, inr, ◌⊎◌}
+use Rattle.std.proofs.Common.{◌≡◌, ℕ, zero, suc, ◌+◌, ◌-◌, ◌<◌, ◌≤◌, ◌==◌, ◌||◌, Bool, true, false, ltb, List, [], ◌∷◌, ◌++◌, length, Option, Result, Err, refl, sym, ap, subst, ◌∙◌, arith, inl, inr, ◌⊎◌}
 use Rattle.std.specs.Prelude.{◌≢◌}
 use Rattle.std.specs.Int.{w32, w64, cast_signed}
 use Rattle.std.proofs.lemmas.Bool.Decides.{nat_tests}
 use Rattle.std.proofs.lemmas.List.{length-append}
-use Rattle.mvm_base.specs.Answers.{◌>>=◌}
-use Rattle.mvm_base.specs.Place.{Place, run, numbered}
-use Rattle.mvm_layout.specs.Format.{Format, whole, bytes, number, given, followed, standing, mapped, choose, refused, kept, converted, if_passing, passing, read_times, spells_times, times, counted}
-use Rattle.mvm_layout.specs.Text.{text_of}
-use Rattle.mvm_layout.specs.Entries.{second, text, index_of, indices_of, constant, reference, is_wide, tagged, item, takes_two, entry, items, pool}
-use Rattle.mvm_layout.specs.Layout.{content, attribute_of, attribute, attributes, member_of, member, members, interfaces, magic, major, body, info_of, layout, ended, laid}
+use Rattle.mvm_base.specs.Place.{run}
+use Rattle.mvm_layout.specs.Format.{Format, bytes, number, given, followed, standing, mapped, choose, refused, converted, if_passing, passing, read_times, spells_times, times, counted}
+use Rattle.mvm_layout.specs.Entries.{second, modified_utf8, text, index_of, indices_of, constant, reference, is_wide, tagged, item, takes_two, entry, items, pool}
+use Rattle.mvm_layout.specs.Layout.{content, attribute_of, attribute, attributes, member_of, member, members, interfaces, magic, major, body, info_of, layout, laid}
 use Rattle.mvm_layout.specs.declared.fault.ClassFault.{ClassFault}
 use Rattle.mvm_layout.specs.declared.fault.ClassFault.TheVariants.{Truncated, Pool, Trailing}
 use Rattle.mvm_layout.specs.declared.info.ClassInfo.{ClassInfo}
 use Rattle.mvm_layout.specs.declared.parts.Item.{Item}
 use Rattle.mvm_layout.specs.declared.parts.Item.TheVariants.{Utf8, Integer, Float, Long, Double, Upper, Class, Str, Fieldref, Methodref, InterfaceMethodref, NameAndType, MethodHandle, MethodType, InvokeDynamic}
-use Rattle.mvm_layout.proofs.Exactness.{Exact, bytes-exact, number-exact, given-exact, followed-exact, standing-exact, mapped-exact, choose-exact, refused-exact, converted-exact, passing-exact, counted-exact, times-exact}
-use Rattle.mvm_layout.proofs.Layouts.{layout-exact, tagged-exact, items-exact, entry-exact, content-exact, attribute-exact, attributes-exact, member-exact, members-exact, interfaces-exact, magic-exact, major-exact, pool-exact}
+use Rattle.mvm_layout.proofs.Exactness.{Exact, number-exact, standing-exact, passing-exact}
+use Rattle.mvm_layout.proofs.Layouts.{layout-exact, entry-exact, attribute-exact, member-exact, members-exact, interfaces-exact, magic-exact, major-exact, pool-exact}
 
 -- a place in these bytes, which begin at a place, or behind the last of them is told to be truncated
 abbrev pub IsCut : {A : Type 0} → ℕ → List ℕ → Result A ClassFault → Type 0
@@ -133,9 +131,14 @@ numbered-cut n G g = followed-cut (number n) G (number-exact n) (number-cut n) g
 
 -- ---- the constant pool
 
+modified_utf8-cut : (fault : ClassFault) (n : ℕ) → Cuts (modified_utf8 fault n)
+modified_utf8-cut fault n = record {
+  cut = λ units text rest at s some. (at, omega arith, omega arith, rw (run_cut n at text rest s.0 some) refl);
+}
+
 text-cut : (index : ℕ) → Cuts (text index)
 unfolding text
-text-cut index = converted-cut text_of _ _ (mapped-cut second _ (numbered-cut 2 bytes bytes-cut))
+text-cut index = mapped-cut second _ (numbered-cut 2 (modified_utf8 (Pool index)) (modified_utf8-cut (Pool index)))
 
 index_of-cut : (f : ℕ → Item) → Cuts (index_of f)
 index_of-cut f = mapped-cut f (number 2) (number-cut 2)

@@ -5,7 +5,7 @@ use Rattle.std.proofs.lemmas.List.{take_at, drop_at, take-append-drop, length-ap
 use Rattle.mvm_base.specs.Endian.{big_number}
 use Rattle.mvm_base.specs.Place.{Place, run, numbered}
 use Rattle.mvm_base.specs.Answers.{◌>>=◌}
-use Rattle.mvm_layout.specs.Format.{Format, whole, bytes, number, given, followed, standing, mapped, choose, refused, kept, converted, if_passing, passing, read_times, spells_times, times, counted}
+use Rattle.mvm_layout.specs.Format.{Format, whole, bytes, number, given, followed, standing, mapped, choose, refused, kept, converted, if_passing, passing, passing_at, read_times, spells_times, times, counted}
 use Rattle.mvm_layout.specs.declared.fault.ClassFault.{ClassFault}
 
 -- x stands at the front of p, and q is behind it
@@ -129,6 +129,12 @@ converted-exact h fault F f = record {
 
 pub passing-exact : {A : Type 0} (test : A → Bool) (fault : A → ClassFault) (F : Format A) → Exact F → Exact (passing test fault F)
 passing-exact test fault F f = converted-exact (λ x. if_passing (test x) x) fault F f
+
+pub passing_at-exact : {A : Type 0} (test : A → Bool) (fault : ℕ → ClassFault) (F : Format A) → Exact F → Exact (passing_at test fault F)
+passing_at-exact test fault F f = record {
+  sound = λ p x q e. (let s = (passing-exact test (λ y. fault p.at) F f).sound p x q e in record { text = s.text; spelled = s.spelled; front = s.front; place = s.place });
+  complete = λ x text rest at s. (passing-exact test (λ y. fault at) F f).complete x text rest at s;
+}
 
 -- ---- one behind the other
 

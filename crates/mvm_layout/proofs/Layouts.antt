@@ -1,28 +1,43 @@
 -- The parts of a class file are read as they are spelled.
-use Rattle.std.proofs.Common.{◌≡◌, ℕ, zero, suc, ◌+◌, ◌-◌, ◌==◌, ◌||◌, Bool, true, false, List, [], ◌∷◌, ◌++◌, length, Some, Result, Ok, Err, refl, sym, ap, subst, ◌∙◌, append-nil, arith, IfOk}
+use Rattle.std.proofs.Common.{◌≡◌, ℕ, zero, suc, ◌+◌, ◌-◌, ◌==◌, ◌||◌, Bool, true, false, List, [], ◌∷◌, ◌++◌, length, Option, Some, None, Result, Ok, Err, refl, sym, ap, subst, ◌∙◌, append-nil, arith, IfOk, IfSome}
 use Rattle.std.specs.Int.{w32, w64, cast_signed}
 use Rattle.std.proofs.lemmas.Bool.Decides.{nat_tests}
 use Rattle.mvm_base.specs.Answers.{◌>>=◌}
 use Rattle.mvm_base.specs.Place.{Place}
 use Rattle.mvm_base.specs.Answers.{AnswersUnless}
 use Rattle.mvm_layout.specs.Infos.{AttributeParts}
-use Rattle.mvm_layout.specs.Format.{Format, bytes, number, followed, standing, if_passing}
-use Rattle.mvm_layout.specs.Text.{text_of}
-use Rattle.mvm_layout.specs.Entries.{second, text, index_of, indices_of, constant, reference, is_wide, tagged, item, takes_two, entry, items, pool}
-use Rattle.mvm_layout.specs.Layout.{content, attribute_of, attribute, attributes, member_of, member, members, interfaces, magic, major, body, info_of, layout, ended, laid, row_of, row, rows, instructions, code_of, code, read_whole, code_laid, code_in}
+use Rattle.mvm_layout.specs.Format.{Format, bytes, number, followed, standing, converted, if_passing}
+use Rattle.mvm_layout.specs.Text.{decoded_text}
+use Rattle.mvm_layout.specs.Entries.{second, modified_utf8, text, index_of, indices_of, constant, reference, is_wide, tagged, item, takes_two, entry, items, pool}
+use Rattle.mvm_layout.specs.Layout.{content, attribute_of, attribute, attributes, member_of, member, members, interfaces, magic, major, body, info_of, layout, ended, laid, row_of, row, rows, instructions, code_of, code, read_whole, IsCode, code_laid, code_in}
 use Rattle.mvm_layout.specs.declared.fault.ClassFault.{ClassFault}
 use Rattle.mvm_layout.specs.declared.fault.ClassFault.TheVariants.{Pool, Trailing, OutOfMemory}
 use Rattle.mvm_layout.specs.declared.info.ClassInfo.{ClassInfo}
 use Rattle.mvm_layout.specs.declared.info.CodeInfo.{CodeInfo}
 use Rattle.mvm_layout.specs.declared.parts.Item.{Item}
 use Rattle.mvm_layout.specs.declared.parts.Item.TheVariants.{Utf8, Integer, Float, Long, Double, Upper, Class, Str, Fieldref, Methodref, InterfaceMethodref, NameAndType, MethodHandle, MethodType, InvokeDynamic}
-use Rattle.mvm_layout.proofs.Exactness.{Exact, bind_ok, kept_ok, bytes-exact, number-exact, given-exact, followed-exact, standing-exact, mapped-exact, choose-exact, refused-exact, converted-exact, passing-exact, counted-exact}
+use Rattle.mvm_layout.proofs.Texts.{decoded_text-sound, decoded_text-complete}
+use Rattle.mvm_layout.proofs.Exactness.{Exact, bind_ok, kept_ok, bytes-exact, number-exact, given-exact, followed-exact, standing-exact, mapped-exact, choose-exact, refused-exact, converted-exact, passing-exact, passing_at-exact, counted-exact}
 
 -- ---- the constant pool
 
+-- what the decoder gives is what the standard says is spelled
+modified_utf8-exact : (fault : ClassFault) (n : ℕ) → Exact (modified_utf8 fault n)
+modified_utf8-exact fault n = record {
+  sound = λ p units q e. (
+      let s = decoder.sound p units q e in
+      let same = s.spelled.1.0 in
+      let is = decoded_text-sound s.spelled.0 units s.spelled.2 in
+      record { text = s.text; spelled = (ap length same ∙ s.spelled.1.1, is.0, same ∙ is.1); front = s.front; place = s.place });
+  complete = λ units text rest at s. decoder.complete units text rest at (text, (refl, s.0), decoded_text-complete text units s.1 s.2);
+}
+  where
+    decoder : Exact (converted decoded_text (λ x. fault) (bytes n))
+    decoder = converted-exact decoded_text (λ x. fault) (bytes n) (bytes-exact n)
+
 text-exact : (index : ℕ) → Exact (text index)
 unfolding text
-text-exact index = converted-exact text_of _ _ (mapped-exact second _ (followed-exact (number 2) bytes (number-exact 2) bytes-exact))
+text-exact index = mapped-exact second _ (followed-exact (number 2) (modified_utf8 (Pool index)) (number-exact 2) (modified_utf8-exact (Pool index)))
 
 index_of-exact : (f : ℕ → Item) → Exact (index_of f)
 index_of-exact f = mapped-exact f (number 2) (number-exact 2)
@@ -144,7 +159,7 @@ rows-exact = counted-exact row row-exact
 
 instructions-exact : Exact instructions
 unfolding instructions
-instructions-exact = passing-exact _ _ content content-exact
+instructions-exact = passing_at-exact _ _ content content-exact
 
 pub code-exact : Exact code
 unfolding code
@@ -194,12 +209,12 @@ whole_is (Ok y) x e = cc
 whole_is (Err fault) x e = absurd cc
 
 -- the same of the code that is the content of an attribute
-pub code_in-sound : (attribute : AttributeParts) (x : CodeInfo) → code_in attribute ≡ Some x → code.spells x (attribute.at + 6) attribute.content
+pub code_in-sound : (attribute : AttributeParts) (x : CodeInfo) → code_in attribute ≡ Some x → IsCode attribute x
 unfolding code_in code_laid
 code_in-sound attribute x e =
     ended-sound code (record { at = attribute.at + 6; rest = attribute.content }) x code-exact (whole_is (code_laid attribute) x e)
 
-pub code_in-complete : (attribute : AttributeParts) (x : CodeInfo) → code.spells x (attribute.at + 6) attribute.content → code_in attribute ≡ Some x
+pub code_in-complete : (attribute : AttributeParts) (x : CodeInfo) → IsCode attribute x → code_in attribute ≡ Some x
 unfolding code_in code_laid
 code_in-complete attribute x s = ap read_whole (ended-complete code (attribute.at + 6) attribute.content x code-exact s)
 
@@ -211,3 +226,15 @@ found text (Err fault) h = tt
 
 pub only : (text : List ℕ) (answer : Result ClassInfo ClassFault) (info : ClassInfo) → AnswersUnless OutOfMemory answer (laid text) → layout.spells info 0 text → AnswersUnless OutOfMemory answer (Ok info)
 only text answer info h s = subst (λ (r : Result ClassInfo ClassFault). AnswersUnless OutOfMemory answer r) (laid-complete text info s) h
+
+some_found : (attribute : AttributeParts) (read : Option CodeInfo) → read ≡ code_in attribute → IfSome read (IsCode attribute)
+some_found attribute (Some info) e = code_in-sound attribute info (sym e)
+some_found attribute None e = tt
+
+pub code_found : {E : Type 0} (attribute : AttributeParts) (answer : Result (Option CodeInfo) E) → IfOk answer (λ code. code ≡ code_in attribute) → IfOk answer (λ code. IfSome code (IsCode attribute))
+code_found attribute (Ok read) h = some_found attribute read h
+code_found attribute (Err fault) h = tt
+
+pub code_only : {E : Type 0} (attribute : AttributeParts) (answer : Result (Option CodeInfo) E) (info : CodeInfo) → IfOk answer (λ code. code ≡ code_in attribute) → IsCode attribute info → IfOk answer (λ code. code ≡ Some info)
+code_only attribute (Ok read) info h s = h ∙ code_in-complete attribute info s
+code_only attribute (Err fault) info h s = tt

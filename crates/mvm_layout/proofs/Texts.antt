@@ -7,7 +7,7 @@ use Rattle.std.proofs.lemmas.Bool.Decides.{nat_tests}
 use Rattle.std.proofs.lemmas.Slice.Eq.{bytes_eq-Decides}
 use Rattle.mvm_base.specs.ModifiedUtf8.{is_one_byte, spelled, spelled_all, AreUnits}
 use Rattle.mvm_base.proofs.Units.{one_is, two_is, three_is, is_one}
-use Rattle.mvm_layout.specs.Text.{is_further, first_bits, units_from, units_of, text_of}
+use Rattle.mvm_layout.specs.Text.{is_further, first_bits, units_from, units_of, decoded_text}
 
 -- ---- the bytes of one unit
 
@@ -120,9 +120,9 @@ same_again : (xs ys : List ℕ) → xs ≡ ys → bytes_eq xs ys ≡ true
 same_again xs ys h = grind (arith, bytes_eq-Decides xs ys)
 
 -- what is read is spelled by the bytes
-pub text_of-sound : (bytes units : List ℕ) → text_of bytes ≡ Some units → AreUnits units × (bytes ≡ spelled_all units)
-unfolding text_of
-text_of-sound bytes units e = by (list_all (λ unit. nat_lt unit (2 ^ 16)) (units_of bytes)) (bytes_eq (spelled_all (units_of bytes)) bytes) refl refl e
+pub decoded_text-sound : (bytes units : List ℕ) → decoded_text bytes ≡ Some units → AreUnits units × (bytes ≡ spelled_all units)
+unfolding decoded_text
+decoded_text-sound bytes units e = by (list_all (λ unit. nat_lt unit (2 ^ 16)) (units_of bytes)) (bytes_eq (spelled_all (units_of bytes)) bytes) refl refl e
   where
     by : (a b : Bool) → list_all (λ unit. nat_lt unit (2 ^ 16)) (units_of bytes) ≡ a → bytes_eq (spelled_all (units_of bytes)) bytes ≡ b
         → cond (a && b) (Some (units_of bytes)) None ≡ Some units → AreUnits units × (bytes ≡ spelled_all units)
@@ -134,15 +134,15 @@ text_of-sound bytes units e = by (list_all (λ unit. nat_lt unit (2 ^ 16)) (unit
     by false false h k f = absurd cc
 
 -- what the bytes spell is read
-pub text_of-complete : (bytes units : List ℕ) → AreUnits units → bytes ≡ spelled_all units → text_of bytes ≡ Some units
-unfolding text_of
-text_of-complete bytes units h e =
+pub decoded_text-complete : (bytes units : List ℕ) → AreUnits units → bytes ≡ spelled_all units → decoded_text bytes ≡ Some units
+unfolding decoded_text
+decoded_text-complete bytes units h e =
     rw (e, units_of_spelled units h, fit_again units h, same_again (spelled_all units) (spelled_all units) refl) refl
 
 -- what nothing spells has no text
-pub text_of-none : (bytes : List ℕ) → ((units : List ℕ) → AreUnits units → bytes ≡ spelled_all units → ⊥) → text_of bytes ≡ None
-text_of-none bytes none = by (text_of bytes) refl
+pub decoded_text-none : (bytes : List ℕ) → ((units : List ℕ) → AreUnits units → bytes ≡ spelled_all units → ⊥) → decoded_text bytes ≡ None
+decoded_text-none bytes none = by (decoded_text bytes) refl
   where
-    by : (o : Option (List ℕ)) → text_of bytes ≡ o → o ≡ None
-    by (Some units) e = let s = text_of-sound bytes units e in absurd (none units s.0 s.1)
+    by : (o : Option (List ℕ)) → decoded_text bytes ≡ o → o ≡ None
+    by (Some units) e = let s = decoded_text-sound bytes units e in absurd (none units s.0 s.1)
     by None e = refl

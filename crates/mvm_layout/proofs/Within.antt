@@ -5,7 +5,10 @@ use Rattle.std.specs.Int.{w32, w64, cast_signed}
 use Rattle.std.proofs.lemmas.List.{length-append}
 use Rattle.std.proofs.lemmas.List.Elements.{All-nil, All-cons}
 use Rattle.byteorder.specs.Numbers.{big_from-lt}
-use Rattle.mvm_base.specs.ModifiedUtf8.{is_one_byte, spelled, spelled_all}
+use Rattle.mvm_base.specs.Bytes.{AreBytes}
+use Rattle.mvm_base.specs.ModifiedUtf8.{spelled_all}
+use Rattle.mvm_base.proofs.Bytes.{left_bytes, right_bytes}
+use Rattle.mvm_base.proofs.Units.{units_spelled}
 use Rattle.mvm_base.specs.Answers.{AnswersUnless}
 use Rattle.mvm_layout.specs.Bounds.{HasFewUnits, StandsWithin, IsWithinFile}
 use Rattle.mvm_layout.specs.Format.{Format, number, followed, mapped, choose, refused, if_passing, spells_times, counted}
@@ -17,73 +20,24 @@ use Rattle.mvm_layout.specs.declared.info.MemberInfo.{MemberInfo}
 use Rattle.mvm_layout.specs.declared.info.ClassInfo.{ClassInfo}
 use Rattle.mvm_layout.specs.declared.parts.Item.{Item}
 use Rattle.mvm_layout.specs.declared.parts.Item.TheVariants.{Utf8, Integer, Float, Long, Double, Class, Str, Fieldref, Methodref, InterfaceMethodref, NameAndType, MethodHandle, MethodType, InvokeDynamic}
-use Rattle.mvm_layout.proofs.Texts.{text_of-sound}
 use Rattle.mvm_layout.proofs.Layouts.{laid-sound}
 
 -- ---- lists
-
-abbrev AreBytes : List ℕ → Type 0
-AreBytes text = (place : ℕ) → get_or text place 0 < 256
-
-at_each : (x : ℕ) (s : List ℕ) → x < 256 → AreBytes s → AreBytes (x ∷ s)
-at_each x s one more zero = one
-at_each x s one more (suc i) = more i
-
-front : (s t : List ℕ) → AreBytes (s ++ t) → AreBytes s
-front [] t h = λ i. omega arith
-front (x ∷ s) t h = at_each x s (h 0) (front s t (λ i. h (suc i)))
-
-back : (s t : List ℕ) → AreBytes (s ++ t) → AreBytes t
-back [] t h = h
-back (x ∷ s) t h = back s t (λ i. h (suc i))
-
-left : (text s t : List ℕ) → text ≡ s ++ t → AreBytes text → AreBytes s
-left text s t e b = front s t (subst AreBytes e b)
-
-right : (text s t : List ℕ) → text ≡ s ++ t → AreBytes text → AreBytes t
-right text s t e b = back s t (subst AreBytes e b)
 
 pub parted : (text s t : List ℕ) → text ≡ s ++ t → length text ≡ length s + length t
 parted text s t e = ap length e ∙ length-append s t
 
 -- ---- texts
 
-one_of : (a b : Bool) (xs ys zs : List ℕ) → 1 ≤ length xs → 1 ≤ length ys → 1 ≤ length zs → 1 ≤ length (cond a xs (cond b ys zs))
-one_of true b xs ys zs h k l = h
-one_of false true xs ys zs h k l = k
-one_of false false xs ys zs h k l = l
-
-spelled_some : (unit : ℕ) → 1 ≤ length (spelled unit)
-unfolding spelled
-spelled_some unit = one_of (is_one_byte unit) (nat_lt unit 2048) _ _ _ one two three
-  where
-    one : 1 ≤ length (unit ∷ [])
-    one = omega arith
-
-    two : 1 ≤ length ((192 + unit / 64) ∷ (128 + unit % 64) ∷ [])
-    two = omega arith
-
-    three : 1 ≤ length ((224 + unit / 4096) ∷ (128 + unit / 64 % 64) ∷ (128 + unit % 64) ∷ [])
-    three = omega arith
-
--- each unit takes a byte at least
-units_spelled : (units : List ℕ) → length units ≤ length (spelled_all units)
-units_spelled [] = omega arith
-units_spelled (unit ∷ units) =
-    let one = spelled_some unit in
-    let more = units_spelled units in
-    let all = length-append (spelled unit) (spelled_all units) in
-    omega (arith, one, more, all)
-
 text_few : (index : ℕ) (units : List ℕ) (at : ℕ) (t : List ℕ) → length t < 2 ^ 32 → (text index).spells units at t → length units < 2 ^ 32
 unfolding text
 text_few index units at t few s =
-    let h = s.1.1 in
+    let h = s.1 in
     let whole = parted t h.0 h.1 h.4 in
-    let content : length h.1 ≡ length s.0 = ap length h.3.0 ∙ ap length s.1.2 in
-    let spelt : length s.0 ≡ length (spelled_all units) = ap length (text_of-sound s.0 units s.2).1 in
-    let fewer = units_spelled units in
-    omega (arith, few, whole, content, spelt, fewer)
+    let spelled : length h.1 ≡ length (spelled_all s.0.1) = ap length h.3.2 in
+    let fewer = units_spelled s.0.1 in
+    let same : length s.0.1 ≡ length units = ap length s.2 in
+    omega (arith, few, whole, spelled, fewer, same)
 
 -- ---- the entries of the constant pool
 
@@ -172,7 +126,7 @@ pool_within xs at t b few s =
     let h = s.1 in
     let whole = parted t h.0 h.1 h.4 in
     let same : h.2.0 ≡ s.0.0 = passed (nat_le 1 h.2.0) h.2.0 s.0.0 h.2.2 in
-    let small = big_from-lt 0 2 h.0 (left t h.0 h.1 h.4 b) in
+    let small = big_from-lt 0 2 h.0 (left_bytes t h.0 h.1 h.4 b) in
     let count : s.0.0 < 256 ^ 2 = subst (λ (k : ℕ). k < 256 ^ 2) (h.2.1.1 ∙ same) small in
     (s.0.0, count, subst (PoolWithin (s.0.0 - 1)) s.2 (items_within false 1 (s.0.0 - 1) s.0.1 (at + length h.0) h.1 (omega (arith, few, whole)) h.3))
 
@@ -269,7 +223,7 @@ layout_within text info bytes few s =
     let b = parted magic.1 minor.0 minor.1 minor.4 in
     let c = parted minor.1 major.0 major.1 major.4 in
     let d = parted major.1 pool.0 pool.1 pool.4 in
-    let are = left major.1 pool.0 pool.1 pool.4 (right minor.1 major.0 major.1 major.4 (right magic.1 minor.0 minor.1 minor.4 (right text magic.0 magic.1 magic.4 bytes))) in
+    let are = left_bytes major.1 pool.0 pool.1 pool.4 (right_bytes minor.1 major.0 major.1 major.4 (right_bytes magic.1 minor.0 minor.1 minor.4 (right_bytes text magic.0 magic.1 magic.4 bytes))) in
     let entries = pool_within s.0.1.1.1.0 _ pool.0 are (omega (arith, few, a, b, c, d)) pool.2 in
     let rest = body_within s.0.1.1.1.1 _ pool.1 (omega (arith, few, a, b, c, d)) pool.3 in
     let few_entries : length s.0.1.1.1.0 < 65535 = omega (arith, entries.1, entries.2.length_is) in

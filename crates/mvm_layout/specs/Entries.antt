@@ -1,8 +1,10 @@
 -- The entries of the constant pool (JVM Specification 4.4).
-use Rattle.std.specs.Prelude.{ℕ, zero, suc, ◌+◌, List, [], ◌∷◌, Bool, true, false, ◌==◌, ◌||◌, nat_le, ◌-◌}
+use Rattle.std.specs.Prelude.{◌≡◌, length, ℕ, zero, suc, ◌+◌, List, [], ◌∷◌, Bool, true, false, ◌==◌, ◌||◌, nat_le, ◌-◌}
 use Rattle.std.specs.Int.{w32, w64, cast_signed}
+use Rattle.mvm_base.specs.ModifiedUtf8.{AreUnits, spelled_all}
 use Rattle.mvm_layout.specs.Format.{Format, bytes, number, given, followed, mapped, choose, refused, converted, passing}
-use Rattle.mvm_layout.specs.Text.{text_of}
+use Rattle.mvm_layout.specs.Text.{decoded_text}
+use Rattle.mvm_layout.specs.declared.fault.ClassFault.{ClassFault}
 use Rattle.mvm_layout.specs.declared.fault.ClassFault.TheVariants.{Pool}
 use Rattle.mvm_layout.specs.declared.parts.Item.{Item}
 use Rattle.mvm_layout.specs.declared.parts.Item.TheVariants.{Utf8, Integer, Float, Long, Double, Upper, Class, Str, Fieldref, Methodref, InterfaceMethodref, NameAndType, MethodHandle, MethodType, InvokeDynamic}
@@ -10,9 +12,16 @@ use Rattle.mvm_layout.specs.declared.parts.Item.TheVariants.{Utf8, Integer, Floa
 abbrev pub second : {A B : Type 0} → A × B → B
 second x = x.1
 
+-- so many bytes, which are the modified UTF-8 of the units of a text (4.4.7); else the fault
+abbrev pub modified_utf8 : ClassFault → ℕ → Format (List ℕ)
+modified_utf8 fault n = record {
+  read = (converted decoded_text (λ x. fault) (bytes n)).read;
+  spells = λ units at text. (length text ≡ n) × AreUnits units × (text ≡ spelled_all units);
+}
+
 -- the length of a text in bytes, and its modified UTF-8
 unfoldable pub text : ℕ → Format (List ℕ)
-text index = converted text_of (λ x. Pool index) (mapped second (followed (number 2) bytes))
+text index = mapped second (followed (number 2) (modified_utf8 (Pool index)))
 
 -- an index of another entry
 abbrev pub index_of : (ℕ → Item) → Format Item

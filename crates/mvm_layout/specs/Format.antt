@@ -78,6 +78,13 @@ if_passing false x = None
 abbrev pub passing : {A : Type 0} → (A → Bool) → (A → ClassFault) → Format A → Format A
 passing test fault F = converted (λ x. if_passing (test x) x) fault F
 
+-- the same, where the fault tells the place at which the value begins
+abbrev pub passing_at : {A : Type 0} → (A → Bool) → (ℕ → ClassFault) → Format A → Format A
+passing_at test fault F = record {
+  read = λ p. (passing test (λ x. fault p.at) F).read p;
+  spells = λ y at text. (x : _) × F.spells x at text × (if_passing (test x) x ≡ Some y);
+}
+
 -- so many values, one after the other
 abbrev pub read_times : {A : Type 0} → Format A → ℕ → Place → Result (List A × Place) ClassFault
 read_times F zero p = Ok ([], p)

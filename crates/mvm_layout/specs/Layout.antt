@@ -3,7 +3,7 @@ use Rattle.std.specs.Prelude.{ℕ, ◌+◌, List, length, ◌&&◌, ◌==◌, na
 use Rattle.mvm_base.specs.Answers.{◌>>=◌}
 use Rattle.mvm_base.specs.Place.{Place}
 use Rattle.mvm_layout.specs.Infos.{AttributeParts}
-use Rattle.mvm_layout.specs.Format.{Format, bytes, number, followed, standing, mapped, passing, counted, kept, if_passing}
+use Rattle.mvm_layout.specs.Format.{Format, bytes, number, followed, standing, mapped, passing, passing_at, counted, kept, if_passing}
 use Rattle.mvm_layout.specs.Entries.{second, pool}
 use Rattle.mvm_layout.specs.declared.fault.ClassFault.{ClassFault}
 use Rattle.mvm_layout.specs.declared.fault.ClassFault.TheVariants.{Magic, Version, Trailing, Shape}
@@ -109,9 +109,9 @@ row =
 unfoldable pub rows : Format (List Row)
 rows = counted row
 
--- 1 to 65,535 bytes of instructions; the fault is of no account
+-- the length of the instructions in bytes, 1 to 65,535, and the instructions; no other length can stand there
 unfoldable pub instructions : Format (List ℕ)
-instructions = passing (λ text. nat_le 1 (length text) && nat_le (length text) 65535) (λ text. Shape 0) content
+instructions = passing_at (λ text. nat_le 1 (length text) && nat_le (length text) 65535) Shape content
 
 abbrev pub code_of : ℕ × (ℕ × (List ℕ × (List Row × List AttributeParts))) → CodeInfo
 code_of (max_stack, (max_locals, (bytes, (rows, attributes)))) = record { code = record { max_stack = max_stack; max_locals = max_locals; bytes = bytes; rows = rows }; attributes = attributes }
@@ -128,10 +128,14 @@ abbrev pub read_whole : Result CodeInfo ClassFault → Option CodeInfo
 read_whole (Ok x) = Some x
 read_whole (Err fault) = None
 
--- the code that the content is, all of it, or the first fault; behind the index of the name and the length
+-- The content of an attribute, all of it, spells this code, at its place in the file: behind the index of the name and the length.
+abbrev pub IsCode : AttributeParts → CodeInfo → Type 0
+IsCode attribute info = code.spells info (attribute.at + 6) attribute.content
+
+-- the code that is read from the content, all of it, or the first fault
 unfoldable pub code_laid : AttributeParts → Result CodeInfo ClassFault
 code_laid attribute = code.read (record { at = attribute.at + 6; rest = attribute.content }) >>= ended
 
--- that code, if it is any
+-- that code, or none where there is a fault
 unfoldable pub code_in : AttributeParts → Option CodeInfo
 code_in attribute = read_whole (code_laid attribute)

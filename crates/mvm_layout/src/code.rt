@@ -51,9 +51,10 @@ fn rows(alloc: Global, cursor: &mut Cursor) -> Result<List<Row>, ClassFault>
 fn instructions(alloc: Global, cursor: &mut Cursor) -> Result<List<u8>, ClassFault>
     ensures { GivesUnless ClassFault.OutOfMemory result (instructions.read cursor.old) cursor.new }
 {
+    let at = cursor.place();
     let bytes = content(cursor)?;
     if bytes.is_empty() || bytes.len() > 65535 {
-        return Err(ClassFault::Shape(0));
+        return Err(ClassFault::Shape(at));
     }
     Ok(List::from_slice(alloc, bytes)?)
 }

@@ -1,7 +1,7 @@
 ghost use Rattle.std.specs.Prelude.{◌≡◌, ◌<◌, ◌-◌, ◌^◌, length, false, IfOk};
 ghost use Rattle.mvm_base.specs.Answers.{Gives, GivesUnless};
 ghost use Rattle.mvm_layout.specs.Format.{Format};
-ghost use Rattle.mvm_layout.specs.Text.{text_of};
+ghost use Rattle.mvm_layout.specs.Text.{decoded_text};
 ghost use Rattle.mvm_layout.specs.Entries.{text, constant, reference, tagged, item, takes_two, entry, items, pool};
 
 use crate::fault::ClassFault;
@@ -10,9 +10,9 @@ use crate::parts::Item;
 use mvm_base::{Cursor, List, Name, OutOfMemory, Utf8Fault, decode_mutf8};
 use std::alloc::Global;
 
-fn text_of(alloc: Global, bytes: &[u8]) -> Result<Option<Name>, OutOfMemory>
+fn decoded_text(alloc: Global, bytes: &[u8]) -> Result<Option<Name>, OutOfMemory>
     requires { length bytes.now < 2 ^ 32 }
-    ensures { IfOk result (λ x. x ≡ text_of bytes.now) }
+    ensures { IfOk result (λ x. x ≡ decoded_text bytes.now) }
 {
     match decode_mutf8(alloc, bytes) {
         Ok(name) => Ok(Some(name)),
@@ -27,7 +27,7 @@ fn text(alloc: Global, cursor: &mut Cursor, index: u16) -> Result<Name, ClassFau
 {
     let n = u2(cursor)?;
     let bytes = run(cursor, u32::from(n))?;
-    match text_of(alloc, bytes)? {
+    match decoded_text(alloc, bytes)? {
         Some(name) => Ok(name),
         None => Err(ClassFault::Pool(index)),
     }

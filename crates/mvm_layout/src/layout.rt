@@ -14,7 +14,7 @@ use std::alloc::Global;
 /// The bytes behind a length of four bytes.
 pub(crate) fn content<'a>(cursor: &mut Cursor<'a>) -> Result<&'a [u8], ClassFault>
     ensures gives { MatchResult result (λ x. content.read cursor.old ≡ Ok (x.now, cursor.new)) (λ fault. content.read cursor.old ≡ Err fault) }
-    ensures place { IfOk result (λ x. cursor.new.at ≡ cursor.old.at + 4 + length x.now) }
+    ensures left { IfOk result (λ x. length cursor.old.rest ≡ 4 + length x.now + length cursor.new.rest) }
 {
     let n = u4(cursor)?;
     run(cursor, n)
@@ -27,8 +27,6 @@ fn attribute<'a>(cursor: &mut Cursor<'a>) -> Result<AttributeInfo<'a>, ClassFaul
     let at = cursor.place();
     let name = u2(cursor)?;
     let content = content(cursor)?;
-    // The place behind the attribute, which is below 2^32.
-    let _end = cursor.place();
     Ok(AttributeInfo::new(at, name, content))
 }
 

@@ -20,7 +20,7 @@ pub(crate) fn u1(cursor: &mut Cursor) -> Result<u8, ClassFault>
 #[tactic(auto, unfolding(mvm_base::specs::Place::run))]
 pub(crate) fn u2(cursor: &mut Cursor) -> Result<u16, ClassFault>
     ensures gives { Gives result ((number 2).read cursor.old) cursor.new }
-    ensures place { OnOk result (cursor.new.at ≡ cursor.old.at + 2) }
+    ensures left { OnOk result (length cursor.old.rest ≡ 2 + length cursor.new.rest) }
 {
     match cursor.u2() {
         Ok(n) => Ok(n),
@@ -32,7 +32,7 @@ pub(crate) fn u2(cursor: &mut Cursor) -> Result<u16, ClassFault>
 #[tactic(auto, unfolding(mvm_base::specs::Place::run))]
 pub(crate) fn u4(cursor: &mut Cursor) -> Result<u32, ClassFault>
     ensures gives { Gives result ((number 4).read cursor.old) cursor.new }
-    ensures place { OnOk result (cursor.new.at ≡ cursor.old.at + 4) }
+    ensures left { OnOk result (length cursor.old.rest ≡ 4 + length cursor.new.rest) }
 {
     match cursor.u4() {
         Ok(n) => Ok(n),
@@ -55,7 +55,7 @@ pub(crate) fn u8(cursor: &mut Cursor) -> Result<u64, ClassFault>
 pub(crate) fn run<'a>(cursor: &mut Cursor<'a>, n: u32) -> Result<&'a [u8], ClassFault>
     ensures gives { MatchResult result (λ x. (bytes n).read cursor.old ≡ Ok (x.now, cursor.new)) (λ fault. (bytes n).read cursor.old ≡ Err fault) }
     ensures len { IfOk result (λ x. length x.now ≡ n) }
-    ensures place { OnOk result (cursor.new.at ≡ cursor.old.at + n) }
+    ensures left { OnOk result (length cursor.old.rest ≡ n + length cursor.new.rest) }
 {
     match cursor.bytes(n) {
         Ok(bytes) => Ok(bytes),

@@ -1,9 +1,10 @@
-ghost use Rattle.std.specs.Prelude.{◌≡◌, ◌<◌, ◌^◌, length, IfOk, Ok};
+ghost use Rattle.std.specs.Prelude.{◌≡◌, ◌<◌, ◌^◌, length, IfOk, IfSome, Ok, Some};
 ghost use Rattle.mvm_base.specs.Answers.{AnswersUnless};
 ghost use Rattle.mvm_layout.specs.Bounds.{IsWithinFile};
 ghost use Rattle.mvm_layout.specs.Format.{Format};
-ghost use Rattle.mvm_layout.specs.Layout.{layout, laid, code_laid, code_in};
+ghost use Rattle.mvm_layout.specs.Layout.{layout, laid, IsCode, code_laid, code_in};
 ghost use Rattle.mvm_layout.specs.declared.info.ClassInfo.{ClassInfo as ClassInfoOf};
+ghost use Rattle.mvm_layout.specs.declared.info.CodeInfo.{CodeInfo as CodeInfoOf};
 
 use crate::code::code;
 use crate::fault::ClassFault;
@@ -52,9 +53,8 @@ fn code_laid<'a>(alloc: Global, attribute: &AttributeInfo<'a>) -> Result<CodeInf
     Ok(code)
 }
 
-/// The code that the content of an attribute is, all of it, or `None` where it is none (JVM Specification 4.7.3).
 #[tactic(auto, unfolding(crate::specs::Layout::code_in))]
-pub fn read_code<'a>(
+fn code_in<'a>(
     alloc: Global,
     attribute: &AttributeInfo<'a>,
 ) -> Result<Option<CodeInfo<'a>>, OutOfMemory>
@@ -65,4 +65,18 @@ pub fn read_code<'a>(
         Err(ClassFault::OutOfMemory) => Err(OutOfMemory),
         Err(_) => Ok(None),
     }
+}
+
+/// The code that the content of an attribute is, all of it, or `None` where it is none (JVM Specification 4.7.3).
+pub fn read_code<'a>(
+    alloc: Global,
+    attribute: &AttributeInfo<'a>,
+) -> Result<Option<CodeInfo<'a>>, OutOfMemory>
+    ensures exact { IfOk result (λ code. code ≡ code_in attribute.now) }
+    // What is read is spelled by the content, all of it.
+    ensures found { IfOk result (λ code. IfSome code (IsCode attribute.now)) }
+    // What the content spells is read, unless memory runs out.
+    ensures only { (info : CodeInfoOf) → IsCode attribute.now info → IfOk result (λ code. code ≡ Some info) }
+{
+    code_in(alloc, attribute)
 }

@@ -1,3 +1,3 @@
-pub mod Texts
-pub mod Numbering
+pub mod TextFacts
+pub mod TextNumbers
 pub mod Lowest

@@ -1,6 +1,6 @@
 pub mod Links
 pub mod Members
 pub mod Shape
-pub mod Facts
-pub mod Numbers
+pub mod TextFacts
+pub mod TextNumbers
 pub mod Lowest

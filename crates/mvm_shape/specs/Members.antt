@@ -19,9 +19,21 @@ use Rattle.mvm_layout.specs.declared.parts.Code.{Code}
 use Rattle.mvm_layout.specs.declared.parts.Member.{Member}
 use Rattle.mvm_layout.specs.declared.info.MemberInfo.{MemberInfo}
 use Rattle.mvm_layout.specs.declared.info.CodeInfo.{CodeInfo}
-use Rattle.mvm_layout.specs.Flags.{is_static, has_no_code}
+use Rattle.mvm_layout.specs.Flags.{has_flag, is_static, has_no_code}
+use Rattle.mvm_layout.specs.declared.flags.TheConstants as flag
 use Rattle.mvm_layout.specs.Pool.{entry, is_utf8, text, is_text}
 use Rattle.mvm_base.specs.Rules.{expect, ◌and_then◌, each}
+use Rattle.mvm_shape.specs.declared.members.TheConstants.{INTERFACE_CODE_MAJOR}
+
+-- ---- places, counted in bytes from the beginning of the file (4.5, 4.6)
+
+-- the index of the name of a field or a method
+abbrev pub name_place : MemberInfo → ℕ
+name_place member = member.at + 2
+
+-- the index of its descriptor
+abbrev pub descriptor_place : MemberInfo → ℕ
+descriptor_place member = member.at + 4
 
 -- ---- names (4.2.2)
 
@@ -116,7 +128,7 @@ abbrev pub same_text : Option (List ℕ) → Option (List ℕ) → Bool
 same_text (Some one) (Some other) = bytes_eq one other
 same_text _ _ = false
 
--- equal name and descriptor, by their texts
+-- equal name and descriptor, by their texts (4.5, 4.6)
 abbrev pub is_same : List Item → MemberInfo → MemberInfo → Bool
 is_same pool one other = same_text (text pool one.name) (text pool other.name) && same_text (text pool one.desc) (text pool other.desc)
 
@@ -124,7 +136,7 @@ is_same pool one other = same_text (text pool one.name) (text pool other.name) &
 abbrev pub is_repeated : List Item → List MemberInfo → MemberInfo → Bool
 is_repeated pool before member = list_any (is_same pool member) before
 
--- Not the second of its name and descriptor; at most one ConstantValue; static, where it is an interface's.
+-- not the second of its name and descriptor (4.5); at most one ConstantValue (4.7.2); static, where it is an interface's (4.5)
 unfoldable pub is_sound_field : List Item → Bool → Bool → MemberInfo → Bool
 is_sound_field pool is_interface repeated member =
     not repeated
@@ -134,33 +146,60 @@ is_sound_field pool is_interface repeated member =
 unfoldable pub tested_field : List Item → Bool → Bool → MemberInfo → Result (Unit {0}) ClassFault
 tested_field pool is_interface repeated member =
     expect (is_sound_field pool is_interface repeated member) (Shape member.at)
-    and_then expect (holds is_unqualified (text pool member.name)) (Shape (member.at + 2))
-    and_then field_descriptor (member.at + 4) (text pool member.desc)
+    and_then expect (holds is_unqualified (text pool member.name)) (Shape (name_place member))
+    and_then field_descriptor (descriptor_place member) (text pool member.desc)
     and_then each (field_attribute pool member) member.attributes
 
 unfoldable pub field_rule : List Item → Bool → List MemberInfo → MemberInfo → Result (Unit {0}) ClassFault
 field_rule pool is_interface before member = tested_field pool is_interface (is_repeated pool before member) member
 
--- Not the second of its name and descriptor; one Code, or none where it is native or abstract.
+-- one Code, or none where it is native or abstract (4.7.3)
+abbrev pub has_right_code : List Item → MemberInfo → Bool
+has_right_code pool member = length (codes_among pool member.attributes) == (if has_no_code member.flags then 0 else 1)
+
+-- not the second of its name and descriptor, and with code as it should be
 unfoldable pub is_sound_method : List Item → Bool → MemberInfo → Bool
-is_sound_method pool repeated member =
-    not repeated
-    && length (codes_among pool member.attributes) == (if has_no_code member.flags then 0 else 1)
+is_sound_method pool repeated member = not repeated && has_right_code pool member
 
--- the code of an interface is that of its class initialisation method, at this stage
-abbrev pub is_built : List Item → Bool → MemberInfo → Bool
-is_built pool is_interface member = not is_interface || has_no_code member.flags || is_text (codes "<clinit>") (text pool member.name)
+-- a method of an interface with code, but for the interface initialization method, which is known by its name (2.9, 4.7.3)
+abbrev pub is_interface_code : List Item → Bool → MemberInfo → Bool
+is_interface_code pool is_interface member = is_interface && not (has_no_code member.flags) && not (is_text (codes "<clinit>") (text pool member.name))
 
-unfoldable pub tested_method : List Item → Bool → Bool → MemberInfo → Result (Unit {0}) ClassFault
-tested_method pool is_interface repeated member =
+abbrev pub has_exactly_one : ℕ → ℕ → ℕ → Bool
+has_exactly_one one other flags = (has_flag one flags || has_flag other flags) && not (has_flag one flags && has_flag other flags)
+
+-- public or private, and neither protected nor final nor synchronized (4.6)
+abbrev pub has_interface_code_flags : ℕ → Bool
+has_interface_code_flags flags =
+    has_exactly_one flag.PUBLIC flag.PRIVATE flags
+    && not (has_flag flag.PROTECTED flags)
+    && not (has_flag flag.FINAL flags)
+    && not (has_flag flag.SYNCHRONIZED flags)
+
+-- in a file of this version methods of an interface may have code (4.6)
+abbrev pub may_have_interface_code : ℕ → Bool
+may_have_interface_code major = nat_le INTERFACE_CODE_MAJOR major
+
+-- code of an interface has the flags for it, where the version knows it (4.6)
+abbrev pub keeps_interface_flags : List Item → ℕ → Bool → MemberInfo → Bool
+keeps_interface_flags pool major is_interface member =
+    not (is_interface_code pool is_interface member && may_have_interface_code major) || has_interface_code_flags member.flags
+
+-- it is no code of an interface, or the version knows it (4.6)
+abbrev pub keeps_interface_version : List Item → ℕ → Bool → MemberInfo → Bool
+keeps_interface_version pool major is_interface member = not (is_interface_code pool is_interface member) || may_have_interface_code major
+
+unfoldable pub tested_method : List Item → ℕ → Bool → Bool → MemberInfo → Result (Unit {0}) ClassFault
+tested_method pool major is_interface repeated member =
     expect (is_sound_method pool repeated member) (Shape member.at)
-    and_then expect (is_built pool is_interface member) (Unsupported member.at)
-    and_then expect (holds is_method_name (text pool member.name)) (Shape (member.at + 2))
-    and_then method_descriptor (member.at + 4) member.flags (text pool member.desc)
+    and_then expect (keeps_interface_flags pool major is_interface member) (Shape member.at)
+    and_then expect (keeps_interface_version pool major is_interface member) (Unsupported member.at)
+    and_then expect (holds is_method_name (text pool member.name)) (Shape (name_place member))
+    and_then method_descriptor (descriptor_place member) member.flags (text pool member.desc)
     and_then each (method_attribute pool) member.attributes
 
-unfoldable pub method_rule : List Item → Bool → List MemberInfo → MemberInfo → Result (Unit {0}) ClassFault
-method_rule pool is_interface before member = tested_method pool is_interface (is_repeated pool before member) member
+unfoldable pub method_rule : List Item → ℕ → Bool → List MemberInfo → MemberInfo → Result (Unit {0}) ClassFault
+method_rule pool major is_interface before member = tested_method pool major is_interface (is_repeated pool before member) member
 
 -- ---- what is kept of a member
 

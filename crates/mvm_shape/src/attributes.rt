@@ -40,10 +40,9 @@ pub(crate) fn first_named<'a, 'b>(
 ) -> Option<&'b AttributeInfo<'a>>
     ensures { option_copied result ≡ first (filter (is_named pool.now name.now) attributes.now) }
 {
-    let all = attributes.as_slice();
-    for i in 0..all.len() {
-        if is_named(pool, name, &all[i]) {
-            return Some(&all[i]);
+    for attribute in attributes.as_slice() {
+        if is_named(pool, name, attribute) {
+            return Some(attribute);
         }
     }
     None
@@ -99,7 +98,7 @@ fn test_field_attribute(
     member: &MemberInfo,
     attribute: &AttributeInfo,
 ) -> Result<(), ClassFault>
-    ensures { AnswersUnless ClassFault.OutOfMemory result (field_attribute pool.now member.now attribute.now) }
+    ensures { result ≡ field_attribute pool.now member.now attribute.now }
 {
     let tells = is_named(pool, b"ConstantValue", attribute) && is_static(member.flags);
     if is_utf8(pool, attribute.name())
@@ -115,18 +114,17 @@ pub(crate) fn test_field_attributes(
     pool: &List<Item>,
     member: &MemberInfo,
 ) -> Result<(), ClassFault>
-    ensures { AnswersUnless ClassFault.OutOfMemory result (each (field_attribute pool.now member.now) member.now.attributes) }
+    ensures { result ≡ each (field_attribute pool.now member.now) member.now.attributes }
 {
-    let attributes = member.attributes.as_slice();
-    for i in 0..attributes.len() {
-        test_field_attribute(pool, member, &attributes[i])?;
+    for attribute in member.attributes.as_slice() {
+        test_field_attribute(pool, member, attribute)?;
     }
     Ok(())
 }
 
 #[tactic(auto, unfolding(crate::specs::Members::named_attribute))]
 fn test_name(pool: &List<Item>, attribute: &AttributeInfo) -> Result<(), ClassFault>
-    ensures { AnswersUnless ClassFault.OutOfMemory result (named_attribute pool.now attribute.now) }
+    ensures { result ≡ named_attribute pool.now attribute.now }
 {
     if is_utf8(pool, attribute.name()) {
         return Ok(());
@@ -139,11 +137,10 @@ pub(crate) fn test_names(
     pool: &List<Item>,
     attributes: &List<AttributeInfo>,
 ) -> Result<(), ClassFault>
-    ensures { AnswersUnless ClassFault.OutOfMemory result (each (named_attribute pool.now) attributes.now) }
+    ensures { result ≡ each (named_attribute pool.now) attributes.now }
 {
-    let all = attributes.as_slice();
-    for i in 0..all.len() {
-        test_name(pool, &all[i])?;
+    for attribute in attributes.as_slice() {
+        test_name(pool, attribute)?;
     }
     Ok(())
 }
@@ -180,9 +177,8 @@ pub(crate) fn test_method_attributes(
 ) -> Result<(), ClassFault>
     ensures { AnswersUnless ClassFault.OutOfMemory result (each (method_attribute pool.now) attributes.now) }
 {
-    let all = attributes.as_slice();
-    for i in 0..all.len() {
-        test_method_attribute(alloc, pool, &all[i])?;
+    for attribute in attributes.as_slice() {
+        test_method_attribute(alloc, pool, attribute)?;
     }
     Ok(())
 }

@@ -5,18 +5,11 @@ ghost use Rattle.mvm_layout.specs.Pool.{entry, is_class};
 ghost use Rattle.mvm_base.specs.Rules.{expect, each_from};
 ghost use Rattle.mvm_shape.specs.Shape.{names_object, has_superclass, are_interfaces, header};
 
+use crate::faults::shape_fault;
 use mvm_base::List;
 use mvm_layout::flags::is_interface;
 use mvm_layout::pool::{is_class, is_class_named};
 use mvm_layout::{ClassFault, ClassInfo, Item};
-
-/// The fault so far behind a place.
-pub(crate) fn shape_fault(at: u32, by: u32) -> ClassFault
-    requires { at + by < 2 ^ 32 }
-    ensures { result ≡ Shape (at + by) }
-{
-    ClassFault::Shape(at + by)
-}
 
 fn interface_fault(at: u32, n: usize) -> ClassFault
     requires { at + 8 + 2 * n < 2 ^ 32 }
@@ -44,7 +37,7 @@ fn has_superclass(info: &ClassInfo) -> bool
 #[tactic(auto, unfolding(crate::specs::Shape::are_interfaces))]
 fn test_interfaces(info: &ClassInfo) -> Result<(), ClassFault>
     requires { info.now.at + 8 + 2 * length info.now.interfaces < 2 ^ 32 }
-    ensures { AnswersUnless ClassFault.OutOfMemory result (are_interfaces info.now) }
+    ensures { result ≡ are_interfaces info.now }
 {
     let indices = info.interfaces.as_slice();
     for i in 0..indices.len() {
@@ -59,7 +52,7 @@ fn test_interfaces(info: &ClassInfo) -> Result<(), ClassFault>
 #[tactic(auto, unfolding(crate::specs::Shape::header))]
 pub(crate) fn test_header(info: &ClassInfo) -> Result<(), ClassFault>
     requires { info.now.at + 8 + 2 * length info.now.interfaces < 2 ^ 32 }
-    ensures { AnswersUnless ClassFault.OutOfMemory result (header info.now) }
+    ensures { result ≡ header info.now }
 {
     if !is_class(&info.pool, info.this_class) {
         return Err(shape_fault(info.at, 2));

@@ -1,4 +1,4 @@
-//! The rules of class files behind their layout (JVM Specification, chapter 4): what the indices of the constant pool
+//! Files: the rules of class files behind their layout (JVM Specification, chapter 4): what the indices of the constant pool
 //! name, and what classes, fields, methods and their attributes have to be.
 //!
 //! To the layers above it promises: [`shape`] answers exactly what `shaped` of `specs/Shape.antt` says of a class file that
@@ -6,14 +6,15 @@
 #![tactic(auto)]
 
 mod attributes;
-mod facts;
+mod faults;
 mod header;
-mod kept;
+mod kept_parts;
 mod laws;
 mod links;
-mod lists;
+mod member_lists;
 mod members;
-mod numbers;
+mod text_facts;
+mod text_numbers;
 #[cfg(test)]
 mod tests;
 
@@ -22,15 +23,14 @@ ghost use Rattle.mvm_base.specs.Answers.{AnswersUnless};
 ghost use Rattle.mvm_layout.specs.Bounds.{IsWithinFile};
 ghost use Rattle.mvm_shape.specs.Shape.{shaped, rules, parts_of};
 
-pub use laws::shape_law;
-
 use crate::attributes::test_names;
-use crate::facts::all_facts;
+use crate::text_facts::all_facts;
 use crate::header::test_header;
-use crate::kept::{field_parts, method_parts};
+use crate::kept_parts::{field_parts, method_parts};
 use crate::links::test_links;
-use crate::lists::{test_fields, test_methods};
-use crate::numbers::numbers;
+use crate::member_lists::{test_fields, test_methods};
+use crate::text_numbers::numbers;
+pub use laws::shape_law;
 use mvm_base::OutOfMemory;
 use mvm_layout::{ClassFault, ClassInfo, Parts};
 use std::alloc::Global;

@@ -6,20 +6,25 @@ ghost use Rattle.mvm_layout.specs.Bounds.{StandsWithin};
 ghost use Rattle.mvm_layout.specs.declared.fault.ClassFault.TheVariants.{Unsupported};
 ghost use Rattle.mvm_layout.specs.Pool.{text};
 ghost use Rattle.mvm_base.specs.Rules.{expect};
-ghost use Rattle.mvm_layout.specs.Flags.{is_static, has_no_code};
-ghost use Rattle.mvm_shape.specs.Members.{is_unqualified, is_method_name, holds, field_descriptor, method_descriptor, is_sound_field, tested_field, is_sound_method, is_built, tested_method};
-ghost use Rattle.mvm_shape.specs.Facts.{all_facts, facts_of, is_known_field, is_known_method, known_field, known_method, tested_as};
+ghost use Rattle.mvm_layout.specs.Flags.{is_static, is_interface, has_no_code};
+ghost use Rattle.mvm_shape.specs.Members.{is_unqualified, is_method_name, holds, field_descriptor, method_descriptor, is_sound_field, tested_field, is_sound_method, is_interface_code, has_interface_code_flags, may_have_interface_code, keeps_interface_flags, keeps_interface_version, tested_method};
+ghost use Rattle.mvm_shape.specs.TextFacts.{all_facts, facts_of, is_known_field, is_known_method, known_field, known_method, tested_as};
 
 use crate::attributes::{count_named, test_field_attributes, test_method_attributes};
-use crate::facts::{Descriptor, TextFacts, facts_at};
-use crate::header::shape_fault;
+use crate::text_facts::{Descriptor, TextFacts, facts_at};
+use crate::faults::{shape_fault, unsupported_fault};
 use mvm_base::List;
-use mvm_layout::flags::{is_static, has_no_code};
+use mvm_layout::flags::{
+    FINAL, PRIVATE, PROTECTED, PUBLIC, SYNCHRONIZED, has_flag, has_no_code, is_interface, is_static,
+};
 use mvm_layout::pool::is_text;
-use mvm_layout::{ClassFault, Item, MemberInfo};
+use mvm_layout::{ClassFault, ClassInfo, Item, MemberInfo};
 use std::alloc::Global;
 
-#[tactic(auto, using(crate::proofs::Texts::field_name))]
+/// The first major version of which an interface's methods may have code (JVM Specification 4.6).
+pub const INTERFACE_CODE_MAJOR: u16 = 52;
+
+#[tactic(auto, using(crate::proofs::TextFacts::field_name))]
 fn is_field_name(pool: &List<Item>, rows: &[Option<TextFacts>], index: u16) -> bool
     requires { rows.now ≡ all_facts pool.now }
     ensures { result ≡ holds is_unqualified (text pool.now index) }
@@ -30,7 +35,7 @@ fn is_field_name(pool: &List<Item>, rows: &[Option<TextFacts>], index: u16) -> b
     }
 }
 
-#[tactic(auto, using(crate::proofs::Texts::method_name))]
+#[tactic(auto, using(crate::proofs::TextFacts::method_name))]
 fn is_method_name(pool: &List<Item>, rows: &[Option<TextFacts>], index: u16) -> bool
     requires { rows.now ≡ all_facts pool.now }
     ensures { result ≡ holds is_method_name (text pool.now index) }
@@ -41,17 +46,10 @@ fn is_method_name(pool: &List<Item>, rows: &[Option<TextFacts>], index: u16) -> 
     }
 }
 
-fn unsupported_fault(at: u32) -> ClassFault
-    requires { at + 4 < 2 ^ 32 }
-    ensures { result ≡ Unsupported (at + 4) }
-{
-    ClassFault::Unsupported(at + 4)
-}
-
 fn test_read(at: u32, beside: u64, read: Descriptor) -> Result<(), ClassFault>
     requires place { at + 4 < 2 ^ 32 }
     requires few { beside ≤ 255 }
-    ensures { AnswersUnless ClassFault.OutOfMemory result (tested_as (at + 4) beside read) }
+    ensures { result ≡ tested_as (at + 4) beside read }
 {
     match read {
         Descriptor::Whole(slots) => {
@@ -60,7 +58,7 @@ fn test_read(at: u32, beside: u64, read: Descriptor) -> Result<(), ClassFault>
             }
             Err(shape_fault(at, 4))
         }
-        Descriptor::Float => Err(unsupported_fault(at)),
+        Descriptor::Float => Err(unsupported_fault(at, 4)),
         Descriptor::Broken => Err(shape_fault(at, 4)),
     }
 }
@@ -83,7 +81,7 @@ fn known_method(facts: Option<TextFacts>) -> Descriptor
     }
 }
 
-#[tactic(auto, using(crate::proofs::Texts::field_tested))]
+#[tactic(auto, using(crate::proofs::TextFacts::field_tested))]
 fn test_field_descriptor(
     pool: &List<Item>,
     rows: &[Option<TextFacts>],
@@ -91,7 +89,7 @@ fn test_field_descriptor(
 ) -> Result<(), ClassFault>
     requires rows { rows.now ≡ all_facts pool.now }
     requires within { StandsWithin member.now }
-    ensures { AnswersUnless ClassFault.OutOfMemory result (field_descriptor (member.now.at + 4) (text pool.now member.now.desc)) }
+    ensures { result ≡ field_descriptor (member.now.at + 4) (text pool.now member.now.desc) }
 {
     let read = known_field(facts_at(pool, rows, member.desc));
     test_read(member.at, 0, read)
@@ -104,7 +102,7 @@ fn own_slots(flags: u16) -> u64
     if is_static(flags) { 0 } else { 1 }
 }
 
-#[tactic(auto, using(crate::proofs::Texts::method_tested))]
+#[tactic(auto, using(crate::proofs::TextFacts::method_tested))]
 fn test_method_descriptor(
     pool: &List<Item>,
     rows: &[Option<TextFacts>],
@@ -112,40 +110,35 @@ fn test_method_descriptor(
 ) -> Result<(), ClassFault>
     requires rows { rows.now ≡ all_facts pool.now }
     requires within { StandsWithin member.now }
-    ensures { AnswersUnless ClassFault.OutOfMemory result (method_descriptor (member.now.at + 4) member.now.flags (text pool.now member.now.desc)) }
+    ensures { result ≡ method_descriptor (member.now.at + 4) member.now.flags (text pool.now member.now.desc) }
 {
     let read = known_method(facts_at(pool, rows, member.desc));
     test_read(member.at, own_slots(member.flags), read)
 }
 
 #[tactic(auto, unfolding(crate::specs::Members::is_sound_field))]
-fn is_sound_field(
-    pool: &List<Item>,
-    is_interface: bool,
-    is_repeated: bool,
-    member: &MemberInfo,
-) -> bool
-    ensures { result ≡ is_sound_field pool.now is_interface is_repeated member.now }
+fn is_sound_field(info: &ClassInfo, is_repeated: bool, member: &MemberInfo) -> bool
+    ensures { result ≡ is_sound_field info.now.pool (is_interface info.now.flags) is_repeated member.now }
 {
     !is_repeated
-        && count_named(pool, b"ConstantValue", &member.attributes) <= 1
-        && (!is_interface || is_static(member.flags))
+        && count_named(&info.pool, b"ConstantValue", &member.attributes) <= 1
+        && (!is_interface(info.flags) || is_static(member.flags))
 }
 
 /// Whether a field keeps the rules.
 #[tactic(auto, unfolding(crate::specs::Members::tested_field))]
 pub(crate) fn test_field(
-    pool: &List<Item>,
+    info: &ClassInfo,
     rows: &[Option<TextFacts>],
-    is_interface: bool,
     is_repeated: bool,
     member: &MemberInfo,
 ) -> Result<(), ClassFault>
-    requires rows { rows.now ≡ all_facts pool.now }
+    requires rows { rows.now ≡ all_facts info.now.pool }
     requires within { StandsWithin member.now }
-    ensures { AnswersUnless ClassFault.OutOfMemory result (tested_field pool.now is_interface is_repeated member.now) }
+    ensures { result ≡ tested_field info.now.pool (is_interface info.now.flags) is_repeated member.now }
 {
-    if !is_sound_field(pool, is_interface, is_repeated, member) {
+    let pool = &info.pool;
+    if !is_sound_field(info, is_repeated, member) {
         return Err(ClassFault::Shape(member.at));
     }
     if !is_field_name(pool, rows, member.name) {
@@ -168,30 +161,66 @@ fn is_sound_method(pool: &List<Item>, is_repeated: bool, member: &MemberInfo) ->
     !is_repeated && count_named(pool, b"Code", &member.attributes) == codes_wanted(member.flags)
 }
 
-fn is_built(pool: &List<Item>, is_interface: bool, member: &MemberInfo) -> bool
-    ensures { result ≡ is_built pool.now is_interface member.now }
+fn is_interface_code(info: &ClassInfo, member: &MemberInfo) -> bool
+    ensures { result ≡ is_interface_code info.now.pool (is_interface info.now.flags) member.now }
 {
-    !is_interface || has_no_code(member.flags) || is_text(pool, member.name, b"<clinit>")
+    is_interface(info.flags)
+        && !has_no_code(member.flags)
+        && !is_text(&info.pool, member.name, b"<clinit>")
+}
+
+fn has_interface_code_flags(flags: u16) -> bool
+    ensures { result ≡ has_interface_code_flags flags }
+{
+    let is_public = has_flag(PUBLIC, flags);
+    let is_private = has_flag(PRIVATE, flags);
+    (is_public || is_private)
+        && !(is_public && is_private)
+        && !has_flag(PROTECTED, flags)
+        && !has_flag(FINAL, flags)
+        && !has_flag(SYNCHRONIZED, flags)
+}
+
+fn may_have_interface_code(major: u16) -> bool
+    ensures { result ≡ may_have_interface_code major }
+{
+    INTERFACE_CODE_MAJOR <= major
+}
+
+fn keeps_interface_flags(info: &ClassInfo, member: &MemberInfo) -> bool
+    ensures { result ≡ keeps_interface_flags info.now.pool info.now.major (is_interface info.now.flags) member.now }
+{
+    !(is_interface_code(info, member) && may_have_interface_code(info.major))
+        || has_interface_code_flags(member.flags)
+}
+
+fn keeps_interface_version(info: &ClassInfo, member: &MemberInfo) -> bool
+    ensures { result ≡ keeps_interface_version info.now.pool info.now.major (is_interface info.now.flags) member.now }
+{
+    !is_interface_code(info, member) || may_have_interface_code(info.major)
 }
 
 /// Whether a method keeps the rules.
 #[tactic(auto, unfolding(crate::specs::Members::tested_method))]
 pub(crate) fn test_method(
     alloc: Global,
-    pool: &List<Item>,
+    info: &ClassInfo,
     rows: &[Option<TextFacts>],
-    is_interface: bool,
     is_repeated: bool,
     member: &MemberInfo,
 ) -> Result<(), ClassFault>
-    requires rows { rows.now ≡ all_facts pool.now }
+    requires rows { rows.now ≡ all_facts info.now.pool }
     requires within { StandsWithin member.now }
-    ensures { AnswersUnless ClassFault.OutOfMemory result (tested_method pool.now is_interface is_repeated member.now) }
+    ensures { AnswersUnless ClassFault.OutOfMemory result (tested_method info.now.pool info.now.major (is_interface info.now.flags) is_repeated member.now) }
 {
+    let pool = &info.pool;
     if !is_sound_method(pool, is_repeated, member) {
         return Err(ClassFault::Shape(member.at));
     }
-    if !is_built(pool, is_interface, member) {
+    if !keeps_interface_flags(info, member) {
+        return Err(ClassFault::Shape(member.at));
+    }
+    if !keeps_interface_version(info, member) {
         return Err(ClassFault::Unsupported(member.at));
     }
     if !is_method_name(pool, rows, member.name) {

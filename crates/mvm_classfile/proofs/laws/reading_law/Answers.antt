@@ -1,4 +1,5 @@
 use Rattle.mvm_classfile.proofs.Answered.{one, never_both, either, cut, longer, lowest_of}
+use Rattle.mvm_classfile.proofs.Codes.{methods_read}
 use Rattle.mvm_classfile.proofs.laws.reading_law.Goals as goal
 
 pub returns-clause-one : goal.returns-clause-one
@@ -18,3 +19,6 @@ returns-clause-longer c = longer
 
 pub returns-clause-lowest : goal.returns-clause-lowest
 returns-clause-lowest c = lowest_of
+
+pub returns-clause-methods : goal.returns-clause-methods
+returns-clause-methods c = methods_read

@@ -1,11 +1,11 @@
-use Rattle.mvm_layout.proofs.Texts.{text_of-sound, text_of-complete}
+use Rattle.mvm_layout.proofs.Texts.{decoded_text-sound, decoded_text-complete}
 use Rattle.mvm_layout.proofs.Layouts.{code_in-sound, code_in-complete}
 use Rattle.mvm_layout.proofs.Cuts.{laid-cut, laid-longer}
-use Rattle.mvm_layout.proofs.Ascending.{places_ascend, code_ascends}
+use Rattle.mvm_layout.proofs.Ascending.{places_ascend}
 use Rattle.mvm_layout.proofs.laws.layout_law.Goals as goal
 
 pub returns-clause-text : goal.returns-clause-text
-returns-clause-text c = λ bytes units. (text_of-sound bytes units, λ h. text_of-complete bytes units h.0 h.1)
+returns-clause-text c = λ bytes units. (decoded_text-sound bytes units, λ h. decoded_text-complete bytes units h.0 h.1)
 
 pub returns-clause-code : goal.returns-clause-code
 returns-clause-code c = λ attribute info. (code_in-sound attribute info, code_in-complete attribute info)

@@ -3,5 +3,5 @@ use Rattle.mvm_base.specs.Rules.{each}
 use Rattle.mvm_shape.specs.Members.{field_attribute}
 use Rattle.mvm_shape.proofs.attributes.test_field_attributes.Given as goal
 
-abbrev pub invariant-loop-i : goal.invariant-loop-i
-invariant-loop-i l = each (field_attribute l.pool l.member) (drop l.i l.member.attributes) ≡ each (field_attribute l.pool l.member) l.member.attributes
+abbrev pub invariant-loop-attribute : goal.invariant-loop-attribute
+invariant-loop-attribute l = each (field_attribute l.pool l.member) (drop l.attribute-index l.member.attributes) ≡ each (field_attribute l.pool l.member) l.member.attributes

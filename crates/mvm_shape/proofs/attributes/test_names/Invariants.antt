@@ -3,5 +3,5 @@ use Rattle.mvm_base.specs.Rules.{each}
 use Rattle.mvm_shape.specs.Members.{named_attribute}
 use Rattle.mvm_shape.proofs.attributes.test_names.Given as goal
 
-abbrev pub invariant-loop-i : goal.invariant-loop-i
-invariant-loop-i l = each (named_attribute l.pool) (drop l.i l.attributes) ≡ each (named_attribute l.pool) l.attributes
+abbrev pub invariant-loop-attribute : goal.invariant-loop-attribute
+invariant-loop-attribute l = each (named_attribute l.pool) (drop l.attribute-index l.attributes) ≡ each (named_attribute l.pool) l.attributes

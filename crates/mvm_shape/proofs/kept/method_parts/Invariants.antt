@@ -1,7 +1,0 @@
-use Rattle.std.proofs.Common.{◌≡◌, take}
-use Rattle.std.specs.Prelude.{map}
-use Rattle.mvm_shape.specs.Members.{method_part}
-use Rattle.mvm_shape.proofs.kept.method_parts.Given as goal
-
-abbrev pub invariant-loop-i : goal.invariant-loop-i
-invariant-loop-i l = l.parts ≡ map (method_part l.pool) (take l.i l.methods)
