@@ -22,7 +22,7 @@ use Rattle.mvm_base.specs.Rules.{expect, each, each_from}
 use Rattle.mvm_check.specs.Starts.{IsStart, first, next, starts_of, is_start, begins}
 use Rattle.mvm_check.specs.Operands.{has_operands, parameter_slots}
 use Rattle.mvm_check.specs.Locals.{locals_of, parameter_locals}
-use Rattle.mvm_check.specs.Instructions.{stood, stands, targets_of_rows, has_targets, is_last, locals_at, has_locals, goes_on, kept, kept_if_stood, keeps}
+use Rattle.mvm_check.specs.Instructions.{stood, stands, targets_of_rows, has_targets, is_last, locals_at, has_locals, stays_in_code, kept, kept_if_stood, keeps}
 use Rattle.mvm_check.specs.Check.{covers, is_row, row_rule, stands_rule, keeps_rule, code_rule, code_rule_if, method_rule, check_of}
 use Rattle.mvm_check.specs.Sound.{StartsAt, LandsOnStarts, SoundInsn, SoundAt, SoundRow, SoundCode, SoundMethod, IsSound}
 use Rattle.mvm_check.specs.declared.fault.CheckFault.{CheckFault}
@@ -102,7 +102,7 @@ locals_again parameters pc most x h p = by (pc == 0)
 -- ---- one instruction
 
 module _ (pool : List Item) (parameters : ℕ) (code : Code) where
-  leads : (pc : ℕ) (x : At) → IsStart code.bytes pc → insn code.bytes pc ≡ Ok x → goes_on code x ≡ true → IsStart code.bytes x.next ⊎ (is_last x.insn ≡ true)
+  leads : (pc : ℕ) (x : At) → IsStart code.bytes pc → insn code.bytes pc ≡ Ok x → stays_in_code code x ≡ true → IsStart code.bytes x.next ⊎ (is_last x.insn ≡ true)
   leads pc x s e h = by (cases_lt x.next (length code.bytes))
     where
       by : (x.next < length code.bytes) ⊎ (length code.bytes ≤ x.next) → IsStart code.bytes x.next ⊎ (is_last x.insn ≡ true)
@@ -113,7 +113,7 @@ module _ (pool : List Item) (parameters : ℕ) (code : Code) where
           let k : (not true || is_last x.insn) ≡ true = rw same at h in
           inr k
 
-  leads_again : (x : At) → IsStart code.bytes x.next ⊎ (is_last x.insn ≡ true) → goes_on code x ≡ true
+  leads_again : (x : At) → IsStart code.bytes x.next ⊎ (is_last x.insn ≡ true) → stays_in_code code x ≡ true
   leads_again x (inl s) =
       let l = in_code s in
       or_left (not (x.next == length code.bytes)) (is_last x.insn) (not_from_false (x.next == length code.bytes) (ne_eqb x.next (length code.bytes) (λ e. absurd (omega (arith, l, e)))))
@@ -122,7 +122,7 @@ module _ (pool : List Item) (parameters : ℕ) (code : Code) where
   kept_sound : (pc : ℕ) (x : At) → IsStart code.bytes pc → insn code.bytes pc ≡ Ok x → kept pool parameters code pc x ≡ Ok tt → SoundInsn pool code x
   unfolding kept
   kept_sound pc x s e h =
-      let last = both _ (expect (goes_on code x) OffEnd) h in
+      let last = both _ (expect (stays_in_code code x) OffEnd) h in
       let locals = both _ (expect (has_locals parameters code pc x.insn) BadLocal) last.0 in
       let operands = both (expect (has_targets (starts_of code.bytes) x.insn) BadTarget) (expect (has_operands pool x.insn) BadIndex) locals.0 in
       record {
@@ -135,7 +135,7 @@ module _ (pool : List Item) (parameters : ℕ) (code : Code) where
   kept_parameters : (x : At) → kept pool parameters code 0 x ≡ Ok tt → parameters ≤ code.max_locals
   unfolding kept
   kept_parameters x h =
-      let last = both _ (expect (goes_on code x) OffEnd) h in
+      let last = both _ (expect (stays_in_code code x) OffEnd) h in
       let locals = both _ (expect (has_locals parameters code 0 x.insn) BadLocal) last.0 in
       parameters_fit parameters code.max_locals x.insn (holds_true _ BadLocal locals.1)
 

@@ -64,16 +64,16 @@ locals_at parameters pc x = if pc == 0 then max parameters (locals_of x) else lo
 abbrev pub has_locals : ℕ → Code → ℕ → Insn → Bool
 has_locals parameters code pc x = nat_le (locals_at parameters pc x) code.max_locals
 
--- the code does not end behind it, or may
-abbrev pub goes_on : Code → At → Bool
-goes_on code x = not (x.next == length code.bytes) || is_last x.insn
+-- the code goes on behind it, or may end there
+abbrev pub stays_in_code : Code → At → Bool
+stays_in_code code x = not (x.next == length code.bytes) || is_last x.insn
 
 unfoldable pub kept : List Item → ℕ → Code → ℕ → At → Result (Unit {0}) CheckKind
 kept pool parameters code pc x =
     expect (has_targets (starts_of code.bytes) x.insn) BadTarget
     and_then expect (has_operands pool x.insn) BadIndex
     and_then expect (has_locals parameters code pc x.insn) BadLocal
-    and_then expect (goes_on code x) OffEnd
+    and_then expect (stays_in_code code x) OffEnd
 
 -- where none stands, the fault was told before
 abbrev pub kept_if_stood : List Item → ℕ → Code → ℕ → Result At InsnFault → Result (Unit {0}) CheckKind

@@ -2,7 +2,7 @@ ghost use Rattle.std.specs.Prelude.{◌≡◌, ◌<◌, ◌^◌, length};
 ghost use Rattle.std.specs.List.{list_all};
 ghost use Rattle.mvm_base.specs.Rules.{expect};
 ghost use Rattle.mvm_check.specs.Starts.{starts_of, begins};
-ghost use Rattle.mvm_check.specs.Instructions.{kind_of, stands, targets_of_rows, has_targets, is_last, locals_at, has_locals, goes_on, kept, keeps};
+ghost use Rattle.mvm_check.specs.Instructions.{kind_of, stands, targets_of_rows, has_targets, is_last, locals_at, has_locals, stays_in_code, kept, keeps};
 
 use crate::constants::Constants;
 use crate::fault::CheckKind;
@@ -86,8 +86,8 @@ fn has_locals(parameters: u128, code: &Code, pc: u32, insn: &Insn) -> bool
     locals_at(parameters, pc, insn) <= u128::from(code.max_locals)
 }
 
-fn goes_on(code: &Code, found: &At) -> bool
-    ensures { result ≡ goes_on code.now found.now }
+fn stays_in_code(code: &Code, found: &At) -> bool
+    ensures { result ≡ stays_in_code code.now found.now }
 {
     found.next as usize != code.bytes.len() || is_last(&found.insn)
 }
@@ -114,7 +114,7 @@ fn kept(
     if !has_locals(parameters, code, pc, &found.insn) {
         return Err(CheckKind::BadLocal);
     }
-    if !goes_on(code, found) {
+    if !stays_in_code(code, found) {
         return Err(CheckKind::OffEnd);
     }
     Ok(())
