@@ -1,5 +1,5 @@
 -- Where nothing stands in the way of a run, no answer is a refusal.
-use Rattle.std.proofs.Common.{◌≡◌, ℕ, ◌<◌, ◌≤◌, List, length, Some, subst, sym, inl, inr}
+use Rattle.std.proofs.Common.{◌≡◌, ℕ, ◌<◌, List, length, subst, inl, inr}
 use Rattle.std.specs.Prelude.{IfSome}
 use Rattle.std.proofs.Math.Nat.{not-le_of_lt}
 use Rattle.mvm_layout.specs.declared.fault.ClassFault.{ClassFault}
