@@ -5,15 +5,15 @@ use Rattle.mvm_base.specs.Answers.{◌>>=◌}
 use Rattle.mvm_base.specs.Place.{Place}
 use Rattle.mvm_insn.specs.Readers.{bytes, number, signed}
 use Rattle.mvm_insn.specs.Rows.{SwitchParts, rows, table_row, lookup_row, word, rising}
-use Rattle.mvm_insn.specs.Shapes.{names_local, shape_of}
+use Rattle.mvm_insn.specs.Opcodes.{names_local, operands_of}
 use Rattle.mvm_insn.specs.declared.fault.InsnFault.{InsnFault}
 use Rattle.mvm_insn.specs.declared.fault.InsnFault.TheVariants.{Unknown, Unsupported, Switch}
 use Rattle.mvm_insn.specs.declared.insn.Insn.{Insn}
 use Rattle.mvm_insn.specs.declared.insn.Insn.TheVariants.{Plain, Number, Pool, Local, Inc, Jump, Choice, Interface, NewArray, Multi}
 use Rattle.mvm_insn.specs.declared.opcodes.TheConstants as jvm
 use Rattle.mvm_insn.specs.declared.insn.At.{At}
-use Rattle.mvm_insn.specs.declared.shapes.Shape.{Shape}
-use Rattle.mvm_insn.specs.declared.shapes.Shape.TheVariants.{Alone, ByteNumber, ShortNumber, BytePool, ShortPool, ByteLocal, Increment, ShortJump, LongJump, Table, Lookup, Invocation, Items, Dimensions, Widened, Foreign, Absent}
+use Rattle.mvm_insn.specs.declared.table.Operands.{Operands}
+use Rattle.mvm_insn.specs.declared.table.Operands.TheVariants.{Alone, ByteNumber, ShortNumber, BytePool, ShortPool, ByteLocal, Increment, ShortJump, LongJump, Table, Lookup, Invocation, Items, Dimensions, Widened, Foreign, Absent}
 
 -- an instruction and the place behind it, or a fault
 abbrev pub Read : Type 0
@@ -141,7 +141,7 @@ chosen op (Ok x) = Ok (Choice op x.0, x.1)
 chosen op (Err fault) = Err fault
 
 -- what stands behind an opcode at a place
-unfoldable pub operands : ℕ → ℕ → Shape → Place → Read
+unfoldable pub operands : ℕ → ℕ → Operands → Place → Read
 operands pc op Alone p = Ok (Plain op, p)
 operands pc op ByteNumber p = byte_number op p
 operands pc op ShortNumber p = short_number op p
@@ -167,7 +167,7 @@ located (Err fault) = Err fault
 
 -- an opcode and what stands behind it
 unfoldable pub read_at : ℕ → Place → Read
-read_at pc p = number 1 p >>= λ op. operands pc op.0 (shape_of op.0) op.1
+read_at pc p = number 1 p >>= λ op. operands pc op.0 (operands_of op.0) op.1
 
 -- the instruction at a place of a method's code, and the place behind it
 unfoldable pub insn : List ℕ → ℕ → Result At InsnFault
