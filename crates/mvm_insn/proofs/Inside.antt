@@ -8,13 +8,13 @@ use Rattle.mvm_base.specs.Answers.{◌>>=◌}
 use Rattle.mvm_base.specs.Place.{Place, run, numbered}
 use Rattle.mvm_insn.specs.Readers.{whole, bytes, number, signed}
 use Rattle.mvm_insn.specs.Rows.{SwitchParts}
-use Rattle.mvm_insn.specs.Shapes.{shape_of}
+use Rattle.mvm_insn.specs.Opcodes.{operands_of}
 use Rattle.mvm_insn.specs.Insns.{Read, byte_number, short_number, byte_pool, short_pool, byte_local, short_local, increment, wide_increment, short_jump, long_jump, invocation, items, dimensions, widened_by, widened, counted, aligned, table_rows, table_parts, table, sorted, lookup_rows, lookup_parts, lookup, chosen, operands, located, read_at, insn}
 use Rattle.mvm_insn.specs.declared.fault.InsnFault.{InsnFault}
 use Rattle.mvm_insn.specs.declared.insn.At.{At}
 use Rattle.mvm_insn.specs.declared.insn.Insn.{Insn}
-use Rattle.mvm_insn.specs.declared.shapes.Shape.{Shape}
-use Rattle.mvm_insn.specs.declared.shapes.Shape.TheVariants.{Alone, ByteNumber, ShortNumber, BytePool, ShortPool, ByteLocal, Increment, ShortJump, LongJump, Table, Lookup, Invocation, Items, Dimensions, Widened, Foreign, Absent}
+use Rattle.mvm_insn.specs.declared.table.Operands.{Operands}
+use Rattle.mvm_insn.specs.declared.table.Operands.TheVariants.{Alone, ByteNumber, ShortNumber, BytePool, ShortPool, ByteLocal, Increment, ShortJump, LongJump, Table, Lookup, Invocation, Items, Dimensions, Widened, Foreign, Absent}
 
 -- a later place in the same bytes: what was read is gone from what is left
 pub record Onward (p q : Place) : Type 0 where
@@ -210,7 +210,7 @@ chosen-on op p (Err fault) one x e = absurd cc
 
 -- ---- the whole
 
-operands-on : (pc op : ℕ) (shape : Shape) (p : Place) → Reads p (operands pc op shape p)
+operands-on : (pc op : ℕ) (shape : Operands) (p : Place) → Reads p (operands pc op shape p)
 unfolding operands
 operands-on pc op Alone p = given _ p
 operands-on pc op ByteNumber p = byte_number-on op p
@@ -235,10 +235,10 @@ read_at-inside : (pc : ℕ) (p : Place) (x : Insn × Place) → read_at pc p ≡
 unfolding read_at
 read_at-inside pc p x e = by (number 1 p) refl e
   where
-    by : (r : Result (ℕ × Place) InsnFault) → number 1 p ≡ r → (r >>= λ op. operands pc op.0 (shape_of op.0) op.1) ≡ Ok x → (p.at < x.1.at) × (p.at + length p.rest ≡ x.1.at + length x.1.rest) × (0 < length p.rest)
+    by : (r : Result (ℕ × Place) InsnFault) → number 1 p ≡ r → (r >>= λ op. operands pc op.0 (operands_of op.0) op.1) ≡ Ok x → (p.at < x.1.at) × (p.at + length p.rest ≡ x.1.at + length x.1.rest) × (0 < length p.rest)
     by (Ok op) h k =
         let one = number-takes 1 p op h in
-        let on = operands-on pc op.0 (shape_of op.0) op.1 x k in
+        let on = operands-on pc op.0 (operands_of op.0) op.1 x k in
         (omega (arith, one.0, on.forward), one.1 ∙ on.same, omega (arith, one.0, one.1))
     by (Err fault) h k = absurd cc
 

@@ -7,14 +7,14 @@ use Rattle.std.specs.Int.{w8, w16, w32}
 use Rattle.mvm_base.specs.Answers.{◌>>=◌}
 use Rattle.mvm_base.specs.Place.{Place}
 use Rattle.mvm_insn.specs.Readers.{bytes, number, signed}
-use Rattle.mvm_insn.specs.Shapes.{shape_of}
+use Rattle.mvm_insn.specs.Opcodes.{operands_of}
 use Rattle.mvm_insn.specs.Insns.{Read, byte_number, short_number, byte_pool, short_pool, byte_local, short_local, increment, wide_increment, short_jump, long_jump, invocation, items, dimensions, widened_by, widened, counted, aligned, table_rows, table_parts, table, sorted, lookup_rows, lookup_parts, lookup, chosen, operands, located, read_at, insn}
 use Rattle.mvm_insn.specs.declared.fault.InsnFault.{InsnFault}
 use Rattle.mvm_insn.specs.declared.insn.At.{At}
 use Rattle.mvm_insn.specs.declared.insn.Insn.{Insn}
 use Rattle.mvm_insn.specs.declared.insn.Insn.TheVariants.{Choice}
-use Rattle.mvm_insn.specs.declared.shapes.Shape.{Shape}
-use Rattle.mvm_insn.specs.declared.shapes.Shape.TheVariants.{Alone, ByteNumber, ShortNumber, BytePool, ShortPool, ByteLocal, Increment, ShortJump, LongJump, Table, Lookup, Invocation, Items, Dimensions, Widened, Foreign, Absent}
+use Rattle.mvm_insn.specs.declared.table.Operands.{Operands}
+use Rattle.mvm_insn.specs.declared.table.Operands.TheVariants.{Alone, ByteNumber, ShortNumber, BytePool, ShortPool, ByteLocal, Increment, ShortJump, LongJump, Table, Lookup, Invocation, Items, Dimensions, Widened, Foreign, Absent}
 use Rattle.mvm_insn.specs.Rows.{SwitchParts, KeysRise, rows, rising, word, table_row, lookup_row}
 use Rattle.mvm_insn.specs.declared.switch_rows.SwitchRow.{SwitchRow}
 use Rattle.mvm_insn.proofs.RowLaws.{length_rows, get_rows, rising-below}
@@ -129,7 +129,7 @@ widened-orders p =
     (either _ _ _ (wide_increment-orders op.1)
     (either _ _ _ (fault-orders _) (fault-orders _))))
 
-operands-orders : (pc op : ℕ) (shape : Shape) (p : Place) → Orders (operands pc op shape p)
+operands-orders : (pc op : ℕ) (shape : Operands) (p : Place) → Orders (operands pc op shape p)
 unfolding operands byte_number short_number byte_pool short_pool byte_local increment short_jump long_jump invocation items dimensions
 operands-orders pc op Alone p = other _ p (λ o rows k. absurd cc)
 operands-orders pc op ByteNumber p = after (signed 1 w8 p) _ (λ n. other _ n.1 (λ o rows k. absurd cc))
@@ -157,4 +157,4 @@ pub insn-keys : (code : List ℕ) (pc op : ℕ) (rows : SwitchParts) (x : At) �
 unfolding insn read_at
 insn-keys code pc op rows x e k =
     let here : Place = record { at = pc; rest = drop pc code } in
-    located-orders (read_at pc here) x op rows (after (number 1 here) _ (λ code. operands-orders pc code.0 (shape_of code.0) code.1)) e k
+    located-orders (read_at pc here) x op rows (after (number 1 here) _ (λ code. operands-orders pc code.0 (operands_of code.0) code.1)) e k

@@ -2,3 +2,4 @@ pub mod Inside
 pub mod Keys
 pub mod RowLaws
 pub mod Runs
+pub mod Tables

@@ -1,5 +1,5 @@
 pub mod Rows
 pub mod Switches
-pub mod Shapes
+pub mod Opcodes
 pub mod Readers
 pub mod Insns

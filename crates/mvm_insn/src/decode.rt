@@ -8,7 +8,7 @@ use crate::read::{
     byte_local, byte_number, byte_pool, dimensions, increment, invocation, items, long_jump,
     short_jump, short_number, short_pool, u1, widened,
 };
-use crate::shapes::{Shape, shape_of};
+use crate::table::{Operands, operands_of};
 use crate::read_switch::{lookup, table};
 use mvm_base::Cursor;
 
@@ -34,29 +34,29 @@ fn lookup_insn<'a>(at: u32, op: u8, cursor: &mut Cursor<'a>) -> Result<Insn<'a>,
 fn operands<'a>(
     at: u32,
     op: u8,
-    shape: Shape,
+    shape: Operands,
     cursor: &mut Cursor<'a>,
 ) -> Result<Insn<'a>, InsnFault>
     ensures { Gives result (operands at op shape cursor.old) cursor.new }
 {
     match shape {
-        Shape::Alone => Ok(Insn::Plain { op }),
-        Shape::ByteNumber => byte_number(op, cursor),
-        Shape::ShortNumber => short_number(op, cursor),
-        Shape::BytePool => byte_pool(op, cursor),
-        Shape::ShortPool => short_pool(op, cursor),
-        Shape::ByteLocal => byte_local(op, cursor),
-        Shape::Increment => increment(cursor),
-        Shape::ShortJump => short_jump(at, op, cursor),
-        Shape::LongJump => long_jump(at, op, cursor),
-        Shape::Table => table_insn(at, op, cursor),
-        Shape::Lookup => lookup_insn(at, op, cursor),
-        Shape::Invocation => invocation(cursor),
-        Shape::Items => items(cursor),
-        Shape::Dimensions => dimensions(cursor),
-        Shape::Widened => widened(cursor),
-        Shape::Foreign => Err(InsnFault::Unsupported(op)),
-        Shape::Absent => Err(InsnFault::Unknown(op)),
+        Operands::Alone => Ok(Insn::Plain { op }),
+        Operands::ByteNumber => byte_number(op, cursor),
+        Operands::ShortNumber => short_number(op, cursor),
+        Operands::BytePool => byte_pool(op, cursor),
+        Operands::ShortPool => short_pool(op, cursor),
+        Operands::ByteLocal => byte_local(op, cursor),
+        Operands::Increment => increment(cursor),
+        Operands::ShortJump => short_jump(at, op, cursor),
+        Operands::LongJump => long_jump(at, op, cursor),
+        Operands::Table => table_insn(at, op, cursor),
+        Operands::Lookup => lookup_insn(at, op, cursor),
+        Operands::Invocation => invocation(cursor),
+        Operands::Items => items(cursor),
+        Operands::Dimensions => dimensions(cursor),
+        Operands::Widened => widened(cursor),
+        Operands::Foreign => Err(InsnFault::Unsupported(op)),
+        Operands::Absent => Err(InsnFault::Unknown(op)),
     }
 }
 
@@ -67,7 +67,7 @@ fn read_at<'a>(cursor: &mut Cursor<'a>) -> Result<Insn<'a>, InsnFault>
 {
     let at = cursor.place();
     let op = u1(cursor)?;
-    operands(at, op, shape_of(op), cursor)
+    operands(at, op, operands_of(op), cursor)
 }
 
 /// The instruction whose opcode stands at a place of a method's code, and the place behind it (JVM Specification 6.5). It

@@ -1,9 +1,10 @@
-//! The instructions of a method's code (JVM Specification 6.5), decoded one at a time.
+//! Files: the instructions of a method's code (JVM Specification 6.5), decoded one at a time.
 //!
 //! To the layers above it promises: [`insn_at`] answers exactly what `insn` of `specs/Insns.antt` says of the code and the
-//! place, an instruction and the place behind it or one of four faults, and takes no memory. Each opcode stands in one
-//! list of `specs/Shapes.antt`, which says what stands behind it. The rows of a switch are lent from the code; contracts
-//! see them as a list of keys and targets.
+//! place, an instruction and the place behind it or one of four faults, and takes no memory. Each instruction takes a byte
+//! at least and ends inside the code, and the keys of a switch rise ([`laws`]). What stands behind an opcode is said by
+//! its row of one table, [`table::TABLE`], which the definition looks up. The rows of a switch are lent from the code;
+//! contracts see them as a list of keys and targets.
 #![tactic(auto)]
 
 mod decode;
@@ -13,9 +14,9 @@ pub mod laws;
 pub mod opcodes;
 mod read;
 mod read_switch;
-mod shapes;
 mod switch;
 mod switch_rows;
+pub mod table;
 
 pub use decode::insn_at;
 pub use fault::InsnFault;

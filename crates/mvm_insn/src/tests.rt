@@ -1,6 +1,8 @@
 ghost use Rattle.std.specs.Prelude.{◌<◌, ◌^◌, length};
 
 use super::*;
+use crate::opcodes::*;
+use crate::table::{Operands, mnemonic, opcode_named, operands_of};
 use std::test::Fail;
 
 fn fault_of(code: &[u8]) -> Option<InsnFault>
@@ -14,24 +16,24 @@ fn fault_of(code: &[u8]) -> Option<InsnFault>
 
 #[test]
 fn tells_faults(rt: HostRuntime) -> Result<(), Fail> {
-    assert_eq!(rt; fault_of(&[0x10]), Some(InsnFault::OffEnd));
-    assert_eq!(rt; fault_of(&[0xba]), Some(InsnFault::Unsupported(186)));
+    assert_eq!(rt; fault_of(&[BIPUSH]), Some(InsnFault::OffEnd));
+    assert_eq!(rt; fault_of(&[INVOKEDYNAMIC]), Some(InsnFault::Unsupported(186)));
     assert_eq!(rt; fault_of(&[0xcb]), Some(InsnFault::Unknown(203)));
-    assert_eq!(rt; fault_of(&[0xc4, 0x17]), Some(InsnFault::Unsupported(23)));
-    assert_eq!(rt; fault_of(&[0xc4]), Some(InsnFault::OffEnd));
+    assert_eq!(rt; fault_of(&[WIDE, FLOAD]), Some(InsnFault::Unsupported(23)));
+    assert_eq!(rt; fault_of(&[WIDE]), Some(InsnFault::OffEnd));
     Ok(())
 }
 
 #[test]
 fn reads_operands(rt: HostRuntime) -> Result<(), Fail> {
-    let load = insn_at(&[0xc4, 0x15, 0x01, 0x00], 0)?;
+    let load = insn_at(&[WIDE, ILOAD, 1, 0], 0)?;
     assert_eq!(rt; load.next, 4);
     let is_local = match &load.insn {
-        Insn::Local { op, local, wide } => *op == 0x15 && *local == 256 && *wide,
+        Insn::Local { op, local, wide } => *op == ILOAD && *local == 256 && *wide,
         _ => false,
     };
     assert!(rt; is_local);
-    let jump = insn_at(&[0xa7, 0xff, 0xf4], 0)?;
+    let jump = insn_at(&[GOTO, 0xff, 0xf4], 0)?;
     let target = match &jump.insn {
         Insn::Jump { target, .. } => *target,
         _ => 0,
@@ -42,14 +44,14 @@ fn reads_operands(rt: HostRuntime) -> Result<(), Fail> {
 
 #[test]
 fn reads_switches(rt: HostRuntime) -> Result<(), Fail> {
-    let lookup = insn_at(&[0xab, 0, 0, 0, 0, 0, 0, 0x14, 0, 0, 0, 0], 0)?;
+    let lookup = insn_at(&[LOOKUPSWITCH, 0, 0, 0, 0, 0, 0, 20, 0, 0, 0, 0], 0)?;
     assert_eq!(rt; lookup.next, 12);
     if let Insn::Choice { rows, .. } = &lookup.insn {
         assert_eq!(rt; rows.rows(), 0);
         assert_eq!(rt; rows.otherwise(), 20);
     }
     let code = [
-        0x00, 0xaa, 0, 0, 0, 0, 0, 0x10, 0, 0, 0, 1, 0, 0, 0, 2, 0, 0, 0, 0x20, 0xff, 0xff, 0xff,
+        NOP, TABLESWITCH, 0, 0, 0, 0, 0, 16, 0, 0, 0, 1, 0, 0, 0, 2, 0, 0, 0, 32, 0xff, 0xff, 0xff,
         0xff,
     ];
     let table = insn_at(&code, 1)?;
@@ -60,5 +62,15 @@ fn reads_switches(rt: HostRuntime) -> Result<(), Fail> {
         assert!(rt; 1 < rows.rows());
         assert_eq!(rt; rows.row(1), SwitchRow { key: 2, target: 0 });
     }
+    Ok(())
+}
+
+#[test]
+fn names_opcodes(rt: HostRuntime) -> Result<(), Fail> {
+    assert_eq!(rt; mnemonic(LSHL), Some("lshl"));
+    assert_eq!(rt; mnemonic(0xca), None);
+    assert_eq!(rt; opcode_named("lshl"), Some(LSHL));
+    assert_eq!(rt; opcode_named("LSHL"), None);
+    assert_eq!(rt; operands_of(GOTO_W), Operands::LongJump);
     Ok(())
 }
