@@ -2,7 +2,7 @@
 use Rattle.std.specs.Prelude.{ℕ, max, ℤ, List, [], ◌∷◌, length, map, Bool, true, false, not, nat_le, ◌||◌, ◌==◌, if◌then◌else◌, Result, Ok, Err}
 use Rattle.std.specs.List.{list_all}
 use Rattle.mvm_insn.specs.Insns.{insn}
-use Rattle.mvm_insn.specs.Shapes.{between}
+use Rattle.mvm_insn.specs.Opcodes.{between}
 use Rattle.mvm_insn.specs.declared.opcodes.TheConstants as jvm
 use Rattle.mvm_insn.specs.declared.fault.InsnFault.{InsnFault}
 use Rattle.mvm_insn.specs.declared.fault.InsnFault.TheVariants.{OffEnd as cut_off, Unknown, Unsupported as foreign, Switch}

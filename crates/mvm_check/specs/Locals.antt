@@ -1,6 +1,6 @@
 -- How many local variables there have to be (JVM Specification 4.9.1).
 use Rattle.std.specs.Prelude.{ℕ, ◌+◌, ◌-◌, ◌||◌, ◌==◌, if◌then◌else◌, Option, Some, None}
-use Rattle.mvm_insn.specs.Shapes.{between}
+use Rattle.mvm_insn.specs.Opcodes.{between}
 use Rattle.mvm_insn.specs.declared.opcodes.TheConstants as jvm
 use Rattle.mvm_insn.specs.declared.insn.Insn.{Insn}
 use Rattle.mvm_insn.specs.declared.insn.Insn.TheVariants.{Plain, Local, Inc}

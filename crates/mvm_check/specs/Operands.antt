@@ -8,7 +8,7 @@ use Rattle.mvm_base.specs.declared.descriptor.DescFault.{DescFault}
 use Rattle.mvm_layout.specs.declared.parts.Item.{Item}
 use Rattle.mvm_layout.specs.declared.parts.Item.TheVariants.{Utf8}
 use Rattle.mvm_layout.specs.Pool.{entry, is_loadable, is_long, is_field, is_method, is_interface_method, is_class, text, class_name, member, name_and_type}
-use Rattle.mvm_insn.specs.Shapes.{between}
+use Rattle.mvm_insn.specs.Opcodes.{between}
 use Rattle.mvm_insn.specs.declared.opcodes.TheConstants as jvm
 use Rattle.mvm_check.specs.declared.array_types.TheConstants as array
 use Rattle.mvm_check.specs.declared.letters.TheConstants as unit
