@@ -6,7 +6,7 @@ use Rattle.std.proofs.lemmas.List.Elements.{All-nil, All-cons, All-head, All-tai
 use Rattle.std.proofs.lemmas.Bool.{eqb-true, eq-eqb, or_cases}
 use Rattle.mvm_base.specs.Rules.{expect, ◌and_then◌, each, each_from}
 use Rattle.mvm_check.specs.Starts.{is_start}
-use Rattle.mvm_check.specs.Rules.{told}
+use Rattle.mvm_check.specs.Check.{told}
 use Rattle.mvm_check.specs.declared.fault.CheckFault.{CheckFault}
 use Rattle.mvm_check.specs.declared.fault.CheckKind.{CheckKind}
 

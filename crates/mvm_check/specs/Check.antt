@@ -1,5 +1,5 @@
 -- The static constraints on the code of a class file (JVM Specification 4.9.1, and 4.9.2 but for the types of values).
-use Rattle.std.specs.Prelude.{ℕ, List, length, Bool, nat_lt, ◌&&◌, ◌||◌, ◌==◌, Option, Some, None, Result, Ok}
+use Rattle.std.specs.Prelude.{ℕ, List, length, Bool, nat_lt, ◌&&◌, ◌||◌, ◌==◌, Option, Some, None, Result, Ok, Err}
 use Rattle.mvm_layout.specs.declared.parts.Item.{Item}
 use Rattle.mvm_layout.specs.declared.parts.Row.{Row}
 use Rattle.mvm_layout.specs.declared.parts.Code.{Code}
@@ -7,13 +7,19 @@ use Rattle.mvm_layout.specs.declared.parts.Member.{Member}
 use Rattle.mvm_layout.specs.declared.parts.Parts.{Parts}
 use Rattle.mvm_layout.specs.Pool.{entry, is_class}
 use Rattle.mvm_base.specs.Rules.{expect, ◌and_then◌, each, each_from}
-use Rattle.mvm_check.specs.Rules.{told}
 use Rattle.mvm_check.specs.Starts.{starts_of, is_start}
 use Rattle.mvm_check.specs.Operands.{parameter_slots}
 use Rattle.mvm_check.specs.Locals.{parameter_locals}
 use Rattle.mvm_check.specs.Instructions.{stands, keeps}
 use Rattle.mvm_check.specs.declared.fault.CheckFault.{CheckFault}
+use Rattle.mvm_check.specs.declared.fault.CheckFault.TheVariants.{Bad}
+use Rattle.mvm_check.specs.declared.fault.CheckKind.{CheckKind}
 use Rattle.mvm_check.specs.declared.fault.CheckKind.TheVariants.{BadHandler}
+
+-- a fault's kind, told of a method at a place
+abbrev pub told : ℕ → ℕ → Result (Unit {0}) CheckKind → Result (Unit {0}) CheckFault
+told method at (Ok done) = Ok tt
+told method at (Err kind) = Err (Bad method at kind)
 
 -- ---- the exception table (4.7.3)
 

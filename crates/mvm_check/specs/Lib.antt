@@ -1,4 +1,3 @@
-pub mod Rules
 pub mod Starts
 pub mod Operands
 pub mod Locals

@@ -4,7 +4,7 @@ ghost use Rattle.mvm_classfile.specs.Writing.{fits_code, has_few_bytes, is_count
 ghost use Rattle.mvm_layout.specs.Pool.{entry, is_class};
 ghost use Rattle.mvm_base.specs.Rules.{each, each_from};
 ghost use Rattle.mvm_base.specs.Answers.{AnswersUnless};
-ghost use Rattle.mvm_check.specs.Rules.{told};
+ghost use Rattle.mvm_check.specs.Check.{told};
 ghost use Rattle.mvm_check.specs.declared.fault.CheckFault.TheVariants.{OutOfMemory};
 ghost use Rattle.mvm_check.specs.Starts.{starts_of};
 ghost use Rattle.mvm_check.specs.Sound.{IsSound};

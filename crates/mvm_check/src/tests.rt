@@ -1,14 +1,35 @@
 use super::*;
 use mvm_base::{List, Name};
 use mvm_classfile::ClassFile;
+use mvm_insn::opcodes::*;
 use mvm_layout::{Code, Item, Member, Parts};
 use std::alloc::{AllocError, Global};
 use std::test::Fail;
 
+/// An opcode of no instruction.
+const NO_OPCODE: u8 = 203;
+
 /// The code of `main`: it counts an int from 0 to 9 and prints each.
 const MAIN: [u8; 19] = [
-    0x03, 0x3c, 0x1b, 0x10, 0x0a, 0xa2, 0x00, 0x0d, 0x1b, 0xb8, 0x00, 0x0d, 0x84, 0x01, 0x01, 0xa7,
-    0xff, 0xf3, 0xb1,
+    ICONST_0,
+    ISTORE_1,
+    ILOAD_1,
+    BIPUSH,
+    10,
+    IF_ICMPGE,
+    0,
+    13,
+    ILOAD_1,
+    INVOKESTATIC,
+    0,
+    13,
+    IINC,
+    1,
+    1,
+    GOTO,
+    0xff,
+    0xf3,
+    RETURN,
 ];
 
 fn text(alloc: Global, text: &str) -> Result<Item, AllocError> {
@@ -81,10 +102,10 @@ fn tells_the_first_fault(rt: HostRuntime) -> Result<(), Fail> {
     for (at, byte, wanted) in [
         (17, 0xf4, Ok(())),
         (17, 0xf5, bad(15, CheckKind::BadTarget)),
-        (0, 0xba, bad(0, CheckKind::Unsupported)),
-        (0, 0xcb, bad(0, CheckKind::BadOpcode)),
-        (11, 0x0c, bad(9, CheckKind::BadIndex)),
-        (18, 0x00, bad(18, CheckKind::OffEnd)),
+        (0, INVOKEDYNAMIC, bad(0, CheckKind::Unsupported)),
+        (0, NO_OPCODE, bad(0, CheckKind::BadOpcode)),
+        (11, 12, bad(9, CheckKind::BadIndex)),
+        (18, NOP, bad(18, CheckKind::OffEnd)),
     ] {
         let mut changed = MAIN;
         assert!(rt; at < changed.len());

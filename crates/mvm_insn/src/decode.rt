@@ -8,8 +8,8 @@ use crate::read::{
     byte_local, byte_number, byte_pool, dimensions, increment, invocation, items, long_jump,
     short_jump, short_number, short_pool, u1, widened,
 };
-use crate::table::{Operands, operands_of};
 use crate::read_switch::{lookup, table};
+use crate::table::{Operands, operands_of};
 use mvm_base::Cursor;
 
 fn table_insn<'a>(at: u32, op: u8, cursor: &mut Cursor<'a>) -> Result<Insn<'a>, InsnFault>

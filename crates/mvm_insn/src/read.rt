@@ -5,8 +5,8 @@ ghost use Rattle.mvm_insn.specs.Readers.{number, signed, bytes};
 ghost use Rattle.mvm_insn.specs.Insns.{byte_number, short_number, byte_pool, short_pool, byte_local, short_local, increment, wide_increment, short_jump, long_jump, invocation, items, dimensions, widened_by, widened};
 
 use crate::fault::InsnFault;
-use crate::opcodes;
 use crate::insn::Insn;
+use crate::opcodes;
 use mvm_base::Cursor;
 
 pub(crate) fn u1(cursor: &mut Cursor) -> Result<u8, InsnFault>

@@ -3,9 +3,9 @@ ghost use Rattle.mvm_base.specs.Answers.{Does, Gives};
 ghost use Rattle.mvm_insn.specs.Readers.{bytes};
 ghost use Rattle.mvm_insn.specs.Insns.{aligned, counted, table_rows, table_parts, table, lookup_rows, lookup_parts, lookup};
 
-use crate::switch::Switch;
 use crate::fault::InsnFault;
 use crate::read::{s4, u4};
+use crate::switch::Switch;
 use crate::switch_rows::{Lookup, Table, rises};
 use mvm_base::Cursor;
 

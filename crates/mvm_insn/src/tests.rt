@@ -2,8 +2,10 @@ ghost use Rattle.std.specs.Prelude.{◌<◌, ◌^◌, length};
 
 use super::*;
 use crate::opcodes::*;
-use crate::table::{Operands, mnemonic, opcode_named, operands_of};
 use std::test::Fail;
+
+/// An opcode of no instruction.
+const NO_OPCODE: u8 = 203;
 
 fn fault_of(code: &[u8]) -> Option<InsnFault>
     requires { length code.now < 2 ^ 32 }
@@ -17,9 +19,15 @@ fn fault_of(code: &[u8]) -> Option<InsnFault>
 #[test]
 fn tells_faults(rt: HostRuntime) -> Result<(), Fail> {
     assert_eq!(rt; fault_of(&[BIPUSH]), Some(InsnFault::OffEnd));
-    assert_eq!(rt; fault_of(&[INVOKEDYNAMIC]), Some(InsnFault::Unsupported(186)));
-    assert_eq!(rt; fault_of(&[0xcb]), Some(InsnFault::Unknown(203)));
-    assert_eq!(rt; fault_of(&[WIDE, FLOAD]), Some(InsnFault::Unsupported(23)));
+    assert_eq!(rt;
+        fault_of(&[INVOKEDYNAMIC]),
+        Some(InsnFault::Unsupported(INVOKEDYNAMIC))
+    );
+    assert_eq!(rt; fault_of(&[NO_OPCODE]), Some(InsnFault::Unknown(NO_OPCODE)));
+    assert_eq!(rt;
+        fault_of(&[WIDE, FLOAD]),
+        Some(InsnFault::Unsupported(FLOAD))
+    );
     assert_eq!(rt; fault_of(&[WIDE]), Some(InsnFault::OffEnd));
     Ok(())
 }
@@ -51,7 +59,29 @@ fn reads_switches(rt: HostRuntime) -> Result<(), Fail> {
         assert_eq!(rt; rows.otherwise(), 20);
     }
     let code = [
-        NOP, TABLESWITCH, 0, 0, 0, 0, 0, 16, 0, 0, 0, 1, 0, 0, 0, 2, 0, 0, 0, 32, 0xff, 0xff, 0xff,
+        NOP,
+        TABLESWITCH,
+        0,
+        0,
+        0,
+        0,
+        0,
+        16,
+        0,
+        0,
+        0,
+        1,
+        0,
+        0,
+        0,
+        2,
+        0,
+        0,
+        0,
+        32,
+        0xff,
+        0xff,
+        0xff,
         0xff,
     ];
     let table = insn_at(&code, 1)?;
@@ -68,7 +98,7 @@ fn reads_switches(rt: HostRuntime) -> Result<(), Fail> {
 #[test]
 fn names_opcodes(rt: HostRuntime) -> Result<(), Fail> {
     assert_eq!(rt; mnemonic(LSHL), Some("lshl"));
-    assert_eq!(rt; mnemonic(0xca), None);
+    assert_eq!(rt; mnemonic(NO_OPCODE), None);
     assert_eq!(rt; opcode_named("lshl"), Some(LSHL));
     assert_eq!(rt; opcode_named("LSHL"), None);
     assert_eq!(rt; operands_of(GOTO_W), Operands::LongJump);
