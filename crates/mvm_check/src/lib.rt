@@ -22,6 +22,3 @@ mod starts;
 pub use checking::check;
 pub use fault::{CheckFault, CheckKind};
 pub use laws::check_law;
-
-#[cfg(test)]
-mod tests;

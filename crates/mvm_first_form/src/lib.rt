@@ -24,6 +24,3 @@ pub use opcodes::At;
 pub use parts::{FirstForm, Item, Method, Parts, Placed};
 pub use read::read_first_form;
 pub use rules::MOST_FRAME_WORDS;
-
-#[cfg(test)]
-mod tests;

@@ -25,6 +25,3 @@ pub use laws::insn_law;
 pub use switch::Switch;
 pub use switch_rows::SwitchRow;
 pub use table::{Operands, mnemonic, opcode_named, operands_of};
-
-#[cfg(test)]
-mod tests;
