@@ -202,7 +202,7 @@ fn check_parts(alloc: Global, parts: &Parts) -> Result<(), CheckFault>
 
 /// Checks the code of each method of a class file against the static constraints on code (JVM Specification 4.9.1), and that
 /// no code ends behind an instruction that goes on (4.9.2): where it answers `Ok`, the code is sound, as
-/// `specs/Sound.antt` says. It takes time and memory in proportion to the class file.
+/// `specs/Sound.antt` says. It is meant to take time and memory in proportion to the class file; no clause says it.
 ///
 /// # Errors
 ///

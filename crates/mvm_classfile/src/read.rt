@@ -31,7 +31,7 @@ pub(crate) fn read_file(alloc: Global, bytes: &[u8]) -> Result<ClassFile, ClassF
 }
 
 /// The class file that the bytes are, all of them (JVM Specification, chapter 4), or their first fault, at steps that nobody
-/// counts. It takes time in proportion to n log n for n bytes and memory in proportion to them, and keeps no reference to them.
+/// counts. It is meant to take time in proportion to n log n for n bytes and memory to n, which no clause says, and keeps no reference to them.
 ///
 /// # Errors
 ///

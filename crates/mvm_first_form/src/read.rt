@@ -52,8 +52,8 @@ fn form_of(alloc: Global, bytes: &[u8]) -> Result<FirstForm, Unread>
     })
 }
 
-/// The class of the first form that the bytes spell, all of them, or `None` where they spell none. It takes time and
-/// memory in proportion to the bytes, of which there are fewer than 2^32, and keeps no reference to them.
+/// The class of the first form that the bytes spell, all of them, or `None` where they spell none. It is meant to take time and
+/// memory in proportion to the bytes, which no clause says, of which there are fewer than 2^32, and keeps no reference to them.
 pub fn read_first_form(alloc: Global, bytes: &[u8]) -> Result<Option<FirstForm>, OutOfMemory>
     requires { length bytes.now < 2 ^ 32 }
     // What is found is spelled so.

@@ -72,8 +72,8 @@ fn parts_of(alloc: Global, info: ClassInfo) -> Result<Parts, OutOfMemory>
 }
 
 /// The parts of a class file that is laid out, without the attributes that are passed over, or its first fault. Its places
-/// and counts are those of a file, as `read_layout` promises. It takes time in proportion to n log n for n bytes, and memory
-/// in proportion to them.
+/// and counts are those of a file, as `read_layout` promises. It is meant to take time in proportion to n log n for n bytes, and memory
+/// in proportion to them; no clause says it.
 #[tactic(auto, unfolding(crate::specs::Shape::shaped))]
 pub fn shape<'a>(alloc: Global, info: ClassInfo<'a>) -> Result<Parts, ClassFault>
     requires { IsWithinFile info }
