@@ -1,0 +1,4 @@
+pub mod Once
+pub mod Kept
+pub mod Joined
+pub mod Walked

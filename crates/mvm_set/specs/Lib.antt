@@ -1,0 +1,9 @@
+pub mod Names
+pub mod Once
+pub mod Family
+pub mod ClassOf
+pub mod Over
+pub mod Set
+pub mod Members
+pub mod Fields
+pub mod Access
