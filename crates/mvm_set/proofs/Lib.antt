@@ -1,3 +1,5 @@
+pub mod Packages
+pub mod Counted
 pub mod Once
 pub mod Kept
 pub mod Joined

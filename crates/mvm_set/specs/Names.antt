@@ -6,6 +6,7 @@ use Rattle.mvm_layout.specs.Flags as flags
 use Rattle.mvm_layout.specs.Pool.{class_name, is_text}
 use Rattle.mvm_layout.specs.declared.parts.Item.{Item}
 use Rattle.mvm_layout.specs.declared.parts.Parts.{Parts}
+use Rattle.mvm_shape.specs.Members.{same_text}
 use Rattle.mvm_set.specs.declared.names.TheConstants.{SLASH}
 
 -- ---- files
@@ -17,6 +18,10 @@ own_name file = class_name file.pool file.this_class
 -- a file defines the class of this name
 abbrev pub is_called : List ℕ → Parts → Bool
 is_called name file = is_text name (own_name file)
+
+-- two files define classes of one name
+abbrev pub is_same : Parts → Parts → Bool
+is_same one other = same_text (own_name one) (own_name other)
 
 -- a file defines an interface
 abbrev pub is_interface : Parts → Bool

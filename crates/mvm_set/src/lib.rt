@@ -7,20 +7,25 @@
 //! [`walk_law`] and [`subclass_law`] say that what they find in a class's walk is what the rules over the tree find.
 #![tactic(auto)]
 
+mod access;
 mod class;
 mod fault;
+mod fields;
 mod found;
 mod laws;
+mod members;
 mod names;
 mod own;
 mod set;
 mod shared;
 
+pub use access::{accessible, is_reachable, is_subclass};
 pub use class::{Class, Lineage};
 pub use fault::LinkFault;
+pub use fields::find_field;
 pub use found::{Found, MethodAt};
 pub use laws::{checked_law, class_law, subclass_law, walk_law};
-pub use names::{is_called, is_interface, own_name};
+pub use names::{is_called, is_interface, is_same, is_same_package, own_name};
 pub use own::{Own, OwnWalk};
 pub use set::{ClassSet, SetRow};
 pub use shared::Shared;

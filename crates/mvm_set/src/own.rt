@@ -1,7 +1,9 @@
 ghost use Rattle.std.specs.Prelude.{◌≡◌};
+ghost use Rattle.mvm_set.specs.Members.{field_at, method_at, flags_at};
 
+use crate::members::member_at;
 use crate::shared::Shared;
-use mvm_base::List;
+use mvm_base::{List, Name};
 use mvm_classfile::ClassFile;
 use std::marker::Model;
 
@@ -48,5 +50,37 @@ impl Own {
         ensures { result.now ≡ self.now.walk }
     {
         self.own.walk.as_slice()
+    }
+
+    /// The place of the file's field of this name and descriptor (JVM Specification 4.5).
+    #[tactic(auto, unfolding(crate::specs::Members::field_at))]
+    pub fn field_at(&self, name: &Name, desc: &Name) -> Option<u16>
+        ensures { result ≡ field_at name.now desc.now self.now.file }
+    {
+        let parts = self.file().parts();
+        member_at(&parts.pool, name, desc, &parts.fields)
+    }
+
+    /// The place of the file's method of this name and descriptor (JVM Specification 4.6).
+    #[tactic(auto, unfolding(crate::specs::Members::method_at))]
+    pub fn method_at(&self, name: &Name, desc: &Name) -> Option<u16>
+        ensures { result ≡ method_at name.now desc.now self.now.file }
+    {
+        let parts = self.file().parts();
+        member_at(&parts.pool, name, desc, &parts.methods)
+    }
+
+    /// The access flags of the file's method of this name and descriptor (JVM Specification 4.6), where it has one.
+    #[tactic(auto, unfolding(crate::specs::Members::flags_at))]
+    pub fn flags_at(&self, name: &Name, desc: &Name) -> Option<u16>
+        ensures { result ≡ flags_at name.now desc.now self.now.file }
+    {
+        match self.method_at(name, desc) {
+            Some(at) => match self.file().parts().methods.get(usize::from(at)) {
+                Some(method) => Some(method.flags),
+                None => None,
+            },
+            None => None,
+        }
     }
 }
