@@ -2,6 +2,7 @@ pub mod Packages
 pub mod Counted
 pub mod Once
 pub mod Seen
+pub mod Sources
 pub mod Over
 pub mod Kept
 pub mod Joined

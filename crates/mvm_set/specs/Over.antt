@@ -1,5 +1,5 @@
 -- A class put together from its file and from the classes of its direct superclass and superinterfaces.
-use Rattle.std.specs.Prelude.{ℕ, List, [], ◌∷◌, ◌++◌, map, not}
+use Rattle.std.specs.Prelude.{◌≡◌, ◌<◌, ◌^◌, ℕ, List, [], ◌∷◌, ◌++◌, length, map, not}
 use Rattle.std.specs.List.{filter}
 use Rattle.mvm_layout.specs.declared.parts.Parts.{Parts}
 use Rattle.mvm_shape.specs.Members.{same_text}
@@ -49,3 +49,10 @@ class_over set file above across = record {
   walk = once own_walk_name (own_over file above across ∷ walks_of across ++ walks_of above);
   checked = once own_walk_name (own_over file above across ∷ checked_of above ++ checked_of across);
 }
+
+-- What every class keeps: each name stands once in its walk and once in its order of verification, and the places of its walk can
+-- be counted in 32 bits.
+pub record IsClass (class : Lineage) : Type 0 where
+  pub few : length class.walk < 2 ^ 32
+  pub walk_once : once own_walk_name class.walk ≡ class.walk
+  pub checked_once : once own_walk_name class.checked ≡ class.checked

@@ -1,4 +1,6 @@
 ghost use Rattle.std.specs.Prelude.{◌≡◌, ◌<◌, ◌^◌, length, IfOk};
+ghost use Rattle.mvm_set.specs.ClassOf.{own_walk_name};
+ghost use Rattle.mvm_set.specs.Once.{once};
 ghost use Rattle.mvm_set.specs.Over.{class_over};
 
 use crate::join::{in_front, in_front_of_lines, other_checked, other_walks, own_of};
@@ -36,14 +38,14 @@ pub struct Class {
 }
 
 impl Model for Class {
-    ghost use Rattle.std.specs.Prelude.{◌<◌, ◌^◌, length};
     ghost use Rattle.mvm_set.specs.declared.class.Lineage.{Lineage as LineageOf};
+    ghost use Rattle.mvm_set.specs.Over.{IsClass};
 
     ghost Value = { LineageOf };
 
     ghost view = { λ c. c.lineage };
 
-    ghost invariant = { λ c. length c.lineage.walk < 2 ^ 32 };
+    ghost invariant = { λ c. IsClass c.lineage };
 }
 
 impl Class {
@@ -107,13 +109,17 @@ impl Class {
     pub fn walk(&self) -> &[Shared<Own>]
         ensures value { result.now ≡ self.now.walk }
         ensures few { length self.now.walk < 2 ^ 32 }
+        // Each name stands there once.
+        ensures once { once own_walk_name self.now.walk ≡ self.now.walk }
     {
         self.lineage.walk.as_slice()
     }
 
     /// The order of verification (JVM Specification 5.4.1).
     pub fn checked(&self) -> &[Shared<Own>]
-        ensures { result.now ≡ self.now.checked }
+        ensures value { result.now ≡ self.now.checked }
+        // Each name stands there once.
+        ensures once { once own_walk_name self.now.checked ≡ self.now.checked }
     {
         self.lineage.checked.as_slice()
     }

@@ -8,7 +8,7 @@ ghost use Rattle.mvm_set.specs.Over.{file_of, others_than, own_of, lines_of, wal
 ghost use Rattle.mvm_set.specs.Seen.{is_seen};
 
 use crate::class::Class;
-use crate::names::own_name;
+use crate::names::{is_same, own_name};
 use crate::own::{Own, OwnWalk};
 use crate::shared::Shared;
 use mvm_base::{List, OutOfMemory};
@@ -68,6 +68,24 @@ fn others_than(
     Ok(others)
 }
 
+/// The same of a list in which each name stands once already.
+fn others_among(
+    alloc: Global,
+    file: &ClassFile,
+    owns: &[Shared<Own>],
+) -> Result<List<Shared<Own>>, OutOfMemory>
+    requires { once own_walk_name owns.now ≡ owns.now }
+    ensures { IfOk result (λ others. others ≡ others_than file.now owns.now) }
+{
+    let mut others = List::new(alloc);
+    for i in 0..owns.len() {
+        if !is_same(owns[i].get().file(), file) {
+            others.push(owns[i].share()?)?;
+        }
+    }
+    Ok(others)
+}
+
 /// Adds these at the end.
 fn append(onto: &mut List<Shared<Own>>, owns: &[Shared<Own>]) -> Result<(), OutOfMemory>
     ensures { OnOk result (onto.new ≡ onto.old ++ owns.now) }
@@ -120,6 +138,9 @@ pub(crate) fn other_walks(
 ) -> Result<List<Shared<Own>>, OutOfMemory>
     ensures { IfOk result (λ others. others ≡ others_than file.now (walks_of across.now ++ walks_of above.now)) }
 {
+    if let ([superclass], []) = (above, across) {
+        return others_among(alloc, file, superclass.get().walk());
+    }
     let mut all = List::new(alloc);
     append_walks(&mut all, across)?;
     append_walks(&mut all, above)?;
@@ -135,6 +156,9 @@ pub(crate) fn other_checked(
 ) -> Result<List<Shared<Own>>, OutOfMemory>
     ensures { IfOk result (λ others. others ≡ others_than file.now (checked_of above.now ++ checked_of across.now)) }
 {
+    if let ([superclass], []) = (above, across) {
+        return others_among(alloc, file, superclass.get().checked());
+    }
     let mut all = List::new(alloc);
     append_checked(&mut all, above)?;
     append_checked(&mut all, across)?;
