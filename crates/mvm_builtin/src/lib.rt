@@ -2,6 +2,7 @@
 #![tactic(auto)]
 
 mod classes;
+mod laws;
 mod make;
 mod native_methods;
 mod natives;
@@ -10,6 +11,7 @@ mod rows;
 mod table;
 
 pub use classes::{builtin, builtin_at};
+pub use laws::builtin_law;
 pub use native_methods::{native_at, native_method, native_number};
 pub use natives::{NATIVES, Native};
-pub use table::{Sort, TABLE};
+pub use table::{CLASSES, Sort, TABLE};
