@@ -2,7 +2,9 @@
 use Rattle.std.proofs.Common.{◌≡◌, refl}
 use Rattle.std.specs.Prelude.{length}
 use Rattle.mvm_builtin.specs.Rows.{EachRow}
+use Rattle.mvm_builtin.specs.Natives.{number, signature}
 use Rattle.mvm_builtin.proofs.Order.{AllKept}
+use Rattle.mvm_builtin.proofs.Numbers.{MethodsCalled}
 use Rattle.mvm_builtin.specs.declared.table.TheConstants.{CLASSES}
 use Rattle.mvm_base.specs.Descriptor.{field_of, method_of, base_in, slots_of}
 use Rattle.mvm_base.specs.ModifiedUtf8.{spelled}
@@ -76,3 +78,55 @@ all_kept =
     (record { placed = refl; named = refl; public = refl; superclass = (refl, refl); superinterfaces = tt },
     (record { placed = refl; named = refl; public = refl; superclass = (refl, refl); superinterfaces = tt },
     (record { placed = refl; named = refl; public = refl; superclass = (refl, refl); superinterfaces = tt }, tt))))))))))))))))))))))))))))))))))))))))))))))))
+
+pub all_called : EachRow MethodsCalled rows
+unfolding rows made with_code number signature
+all_called =
+    (((refl, refl), ((refl, refl), ((refl, refl), ((refl, refl), ((refl, refl), tt))))),
+    (((refl, refl), ((refl, refl), ((refl, refl), ((refl, refl), ((refl, refl), ((refl, refl), ((refl, refl), ((refl, refl), ((refl, refl), ((refl, refl), tt)))))))))),
+    (((refl, refl), ((refl, refl), ((refl, refl), ((refl, refl), ((refl, refl), ((refl, refl), ((refl, refl), ((refl, refl), tt)))))))),
+    (((refl, refl), tt),
+    (((refl, refl), ((refl, refl), ((refl, refl), ((refl, refl), ((refl, refl), ((refl, refl), ((refl, refl), ((refl, refl), ((refl, refl), ((refl, refl), ((refl, refl), tt))))))))))),
+    (((refl, refl), tt),
+    (tt,
+    ((refl, tt),
+    (((refl, refl), ((refl, refl), ((refl, refl), (refl, ((refl, refl), ((refl, refl), tt)))))),
+    (((refl, refl), tt),
+    (((refl, refl), ((refl, refl), ((refl, refl), tt))),
+    (((refl, refl), ((refl, refl), ((refl, refl), ((refl, refl), ((refl, refl), ((refl, refl), tt)))))),
+    (((refl, refl), ((refl, refl), ((refl, refl), ((refl, refl), ((refl, refl), tt))))),
+    (((refl, refl), ((refl, refl), ((refl, refl), tt))),
+    (((refl, refl), ((refl, refl), tt)),
+    (((refl, refl), ((refl, refl), ((refl, refl), tt))),
+    (((refl, refl), ((refl, refl), tt)),
+    (((refl, refl), ((refl, refl), tt)),
+    (((refl, refl), ((refl, refl), tt)),
+    (((refl, refl), ((refl, refl), tt)),
+    (((refl, refl), ((refl, refl), tt)),
+    (((refl, refl), ((refl, refl), tt)),
+    (((refl, refl), ((refl, refl), tt)),
+    (((refl, refl), ((refl, refl), tt)),
+    (((refl, refl), ((refl, refl), tt)),
+    (((refl, refl), ((refl, refl), tt)),
+    (((refl, refl), ((refl, refl), tt)),
+    (((refl, refl), ((refl, refl), tt)),
+    (((refl, refl), ((refl, refl), tt)),
+    (((refl, refl), ((refl, refl), tt)),
+    (((refl, refl), ((refl, refl), ((refl, refl), tt))),
+    (((refl, refl), ((refl, refl), tt)),
+    (((refl, refl), ((refl, refl), tt)),
+    (((refl, refl), ((refl, refl), tt)),
+    (((refl, refl), ((refl, refl), tt)),
+    (((refl, refl), ((refl, refl), tt)),
+    (((refl, refl), ((refl, refl), tt)),
+    (((refl, refl), ((refl, refl), tt)),
+    (((refl, refl), ((refl, refl), tt)),
+    (((refl, refl), ((refl, refl), tt)),
+    (((refl, refl), ((refl, refl), tt)),
+    (((refl, refl), ((refl, refl), tt)),
+    (((refl, refl), ((refl, refl), tt)),
+    (((refl, refl), ((refl, refl), tt)),
+    (((refl, refl), ((refl, refl), tt)),
+    (((refl, refl), ((refl, refl), tt)),
+    (((refl, refl), ((refl, refl), tt)),
+    (((refl, refl), ((refl, refl), tt)), tt))))))))))))))))))))))))))))))))))))))))))))))))

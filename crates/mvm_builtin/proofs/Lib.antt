@@ -1,3 +1,4 @@
 pub mod Order
-pub mod Computed
 pub mod Found
+pub mod Numbers
+pub mod Computed

@@ -5,7 +5,9 @@ ghost use Rattle.mvm_layout.specs.declared.flags.TheConstants.{PUBLIC};
 ghost use Rattle.mvm_layout.specs.declared.parts.Parts.{Parts};
 ghost use Rattle.mvm_builtin.specs.Table.{rows};
 ghost use Rattle.mvm_builtin.specs.Classes.{builtin, builtin_at};
+ghost use Rattle.mvm_builtin.specs.Natives.{number, native_at, IsMethodOf};
 ghost use Rattle.mvm_builtin.specs.Order.{place_of, own_name, StandsBefore};
+ghost use Rattle.mvm_builtin.specs.declared.natives.Native.{Native};
 
 use crate::table::CLASSES;
 
@@ -25,4 +27,17 @@ pub fn builtin_law()
     ensures superclass { (name super : List ℕ) (file : Parts) → builtin name ≡ Some file → class_name file.pool file.super_class ≡ Some super → StandsBefore false super name }
     // Each superinterface is a built-in interface that stands before it.
     ensures superinterfaces { (name : List ℕ) (file : Parts) → builtin name ≡ Some file → All (λ index. (super : List ℕ) → class_name file.pool index ≡ Some super → StandsBefore true super name) file.interfaces }
+{}
+
+/// What holds of all native methods.
+pub fn native_law()
+    // A native method is the one of its number,
+    ensures at { (native : Native) → native_at (number native) ≡ Some native }
+    // and has the only number that gives it.
+    ensures only { (place : ℕ) (native : Native) → native_at place ≡ Some native → number native ≡ place }
+    // Two have different numbers.
+    ensures apart { (one other : Native) → number one ≡ number other → one ≡ other }
+    // A method of a built-in class has a number exactly where its flags say that it is native. Its number alone tells its name, its
+    // descriptor, and whether it is static.
+    ensures methods { (class : List ℕ) (file : Parts) → builtin class ≡ Some file → All (IsMethodOf class file.pool) file.methods }
 {}
