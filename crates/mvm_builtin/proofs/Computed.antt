@@ -1,7 +1,7 @@
 -- What is computed of every row of the table, one after the other.
 use Rattle.std.proofs.Common.{◌≡◌, refl}
 use Rattle.std.specs.Prelude.{length}
-use Rattle.mvm_builtin.specs.Rows.{EachRow}
+use Rattle.mvm_builtin.proofs.Found.{EachRow}
 use Rattle.mvm_builtin.specs.Natives.{number, signature}
 use Rattle.mvm_builtin.proofs.Order.{AllKept}
 use Rattle.mvm_builtin.proofs.Numbers.{MethodsCalled}
@@ -29,104 +29,290 @@ counted = refl
 
 pub all_kept : AllKept rows 0 rows
 unfolding rows made with_code
-all_kept =
-    (record { placed = refl; named = refl; public = refl; superclass = tt; superinterfaces = tt },
-    (record { placed = refl; named = refl; public = refl; superclass = (refl, refl); superinterfaces = tt },
-    (record { placed = refl; named = refl; public = refl; superclass = (refl, refl); superinterfaces = tt },
-    (record { placed = refl; named = refl; public = refl; superclass = (refl, refl); superinterfaces = tt },
-    (record { placed = refl; named = refl; public = refl; superclass = (refl, refl); superinterfaces = tt },
-    (record { placed = refl; named = refl; public = refl; superclass = (refl, refl); superinterfaces = tt },
-    (record { placed = refl; named = refl; public = refl; superclass = (refl, refl); superinterfaces = tt },
-    (record { placed = refl; named = refl; public = refl; superclass = (refl, refl); superinterfaces = tt },
-    (record { placed = refl; named = refl; public = refl; superclass = (refl, refl); superinterfaces = ((refl, refl), tt) },
-    (record { placed = refl; named = refl; public = refl; superclass = (refl, refl); superinterfaces = tt },
-    (record { placed = refl; named = refl; public = refl; superclass = (refl, refl); superinterfaces = tt },
-    (record { placed = refl; named = refl; public = refl; superclass = (refl, refl); superinterfaces = tt },
-    (record { placed = refl; named = refl; public = refl; superclass = (refl, refl); superinterfaces = tt },
-    (record { placed = refl; named = refl; public = refl; superclass = (refl, refl); superinterfaces = tt },
-    (record { placed = refl; named = refl; public = refl; superclass = (refl, refl); superinterfaces = tt },
-    (record { placed = refl; named = refl; public = refl; superclass = (refl, refl); superinterfaces = tt },
-    (record { placed = refl; named = refl; public = refl; superclass = (refl, refl); superinterfaces = tt },
-    (record { placed = refl; named = refl; public = refl; superclass = (refl, refl); superinterfaces = tt },
-    (record { placed = refl; named = refl; public = refl; superclass = (refl, refl); superinterfaces = tt },
-    (record { placed = refl; named = refl; public = refl; superclass = (refl, refl); superinterfaces = tt },
-    (record { placed = refl; named = refl; public = refl; superclass = (refl, refl); superinterfaces = tt },
-    (record { placed = refl; named = refl; public = refl; superclass = (refl, refl); superinterfaces = tt },
-    (record { placed = refl; named = refl; public = refl; superclass = (refl, refl); superinterfaces = tt },
-    (record { placed = refl; named = refl; public = refl; superclass = (refl, refl); superinterfaces = tt },
-    (record { placed = refl; named = refl; public = refl; superclass = (refl, refl); superinterfaces = tt },
-    (record { placed = refl; named = refl; public = refl; superclass = (refl, refl); superinterfaces = tt },
-    (record { placed = refl; named = refl; public = refl; superclass = (refl, refl); superinterfaces = tt },
-    (record { placed = refl; named = refl; public = refl; superclass = (refl, refl); superinterfaces = tt },
-    (record { placed = refl; named = refl; public = refl; superclass = (refl, refl); superinterfaces = tt },
-    (record { placed = refl; named = refl; public = refl; superclass = (refl, refl); superinterfaces = tt },
-    (record { placed = refl; named = refl; public = refl; superclass = (refl, refl); superinterfaces = tt },
-    (record { placed = refl; named = refl; public = refl; superclass = (refl, refl); superinterfaces = tt },
-    (record { placed = refl; named = refl; public = refl; superclass = (refl, refl); superinterfaces = tt },
-    (record { placed = refl; named = refl; public = refl; superclass = (refl, refl); superinterfaces = tt },
-    (record { placed = refl; named = refl; public = refl; superclass = (refl, refl); superinterfaces = tt },
-    (record { placed = refl; named = refl; public = refl; superclass = (refl, refl); superinterfaces = tt },
-    (record { placed = refl; named = refl; public = refl; superclass = (refl, refl); superinterfaces = tt },
-    (record { placed = refl; named = refl; public = refl; superclass = (refl, refl); superinterfaces = tt },
-    (record { placed = refl; named = refl; public = refl; superclass = (refl, refl); superinterfaces = tt },
-    (record { placed = refl; named = refl; public = refl; superclass = (refl, refl); superinterfaces = tt },
-    (record { placed = refl; named = refl; public = refl; superclass = (refl, refl); superinterfaces = tt },
-    (record { placed = refl; named = refl; public = refl; superclass = (refl, refl); superinterfaces = tt },
-    (record { placed = refl; named = refl; public = refl; superclass = (refl, refl); superinterfaces = tt },
-    (record { placed = refl; named = refl; public = refl; superclass = (refl, refl); superinterfaces = tt },
-    (record { placed = refl; named = refl; public = refl; superclass = (refl, refl); superinterfaces = tt },
-    (record { placed = refl; named = refl; public = refl; superclass = (refl, refl); superinterfaces = tt },
-    (record { placed = refl; named = refl; public = refl; superclass = (refl, refl); superinterfaces = tt },
-    (record { placed = refl; named = refl; public = refl; superclass = (refl, refl); superinterfaces = tt }, tt))))))))))))))))))))))))))))))))))))))))))))))))
+all_kept = (
+  record { placed = refl; named = refl; public = refl; superclass = tt; superinterfaces = tt },
+  (
+    record { placed = refl; named = refl; public = refl; superclass = (refl, refl); superinterfaces = tt },
+    (
+      record { placed = refl; named = refl; public = refl; superclass = (refl, refl); superinterfaces = tt },
+      (
+        record { placed = refl; named = refl; public = refl; superclass = (refl, refl); superinterfaces = tt },
+        (
+          record { placed = refl; named = refl; public = refl; superclass = (refl, refl); superinterfaces = tt },
+          (
+            record { placed = refl; named = refl; public = refl; superclass = (refl, refl); superinterfaces = tt },
+            (
+              record { placed = refl; named = refl; public = refl; superclass = (refl, refl); superinterfaces = tt },
+              (
+                record { placed = refl; named = refl; public = refl; superclass = (refl, refl); superinterfaces = tt },
+                (
+                  record { placed = refl; named = refl; public = refl; superclass = (refl, refl); superinterfaces = ((refl, refl), tt) },
+                  (
+                    record { placed = refl; named = refl; public = refl; superclass = (refl, refl); superinterfaces = tt },
+                    (
+                      record { placed = refl; named = refl; public = refl; superclass = (refl, refl); superinterfaces = tt },
+                      (
+                        record { placed = refl; named = refl; public = refl; superclass = (refl, refl); superinterfaces = tt },
+                        (
+                          record { placed = refl; named = refl; public = refl; superclass = (refl, refl); superinterfaces = tt },
+                          (
+                            record { placed = refl; named = refl; public = refl; superclass = (refl, refl); superinterfaces = tt },
+                            (
+                              record { placed = refl; named = refl; public = refl; superclass = (refl, refl); superinterfaces = tt },
+                              (
+                                record { placed = refl; named = refl; public = refl; superclass = (refl, refl); superinterfaces = tt },
+                                (
+                                  record { placed = refl; named = refl; public = refl; superclass = (refl, refl); superinterfaces = tt },
+                                  (
+                                    record { placed = refl; named = refl; public = refl; superclass = (refl, refl); superinterfaces = tt },
+                                    (
+                                      record { placed = refl; named = refl; public = refl; superclass = (refl, refl); superinterfaces = tt },
+                                      (
+                                        record { placed = refl; named = refl; public = refl; superclass = (refl, refl); superinterfaces = tt },
+                                        (
+                                          record { placed = refl; named = refl; public = refl; superclass = (refl, refl); superinterfaces = tt },
+                                          (
+                                            record { placed = refl; named = refl; public = refl; superclass = (refl, refl); superinterfaces = tt },
+                                            (
+                                              record { placed = refl; named = refl; public = refl; superclass = (refl, refl); superinterfaces = tt },
+                                              (
+                                                record { placed = refl; named = refl; public = refl; superclass = (refl, refl); superinterfaces = tt },
+                                                (
+                                                  record { placed = refl; named = refl; public = refl; superclass = (refl, refl); superinterfaces = tt },
+                                                  (
+                                                    record { placed = refl; named = refl; public = refl; superclass = (refl, refl); superinterfaces = tt },
+                                                    (
+                                                      record { placed = refl; named = refl; public = refl; superclass = (refl, refl); superinterfaces = tt },
+                                                      (
+                                                        record { placed = refl; named = refl; public = refl; superclass = (refl, refl); superinterfaces = tt },
+                                                        (
+                                                          record { placed = refl; named = refl; public = refl; superclass = (refl, refl); superinterfaces = tt },
+                                                          (
+                                                            record { placed = refl; named = refl; public = refl; superclass = (refl, refl); superinterfaces = tt },
+                                                            (
+                                                              record { placed = refl; named = refl; public = refl; superclass = (refl, refl); superinterfaces = tt },
+                                                              (
+                                                                record { placed = refl; named = refl; public = refl; superclass = (refl, refl); superinterfaces = tt },
+                                                                (
+                                                                  record { placed = refl; named = refl; public = refl; superclass = (refl, refl); superinterfaces = tt },
+                                                                  (
+                                                                    record { placed = refl; named = refl; public = refl; superclass = (refl, refl); superinterfaces = tt },
+                                                                    (
+                                                                      record { placed = refl; named = refl; public = refl; superclass = (refl, refl); superinterfaces = tt },
+                                                                      (
+                                                                        record { placed = refl; named = refl; public = refl; superclass = (refl, refl); superinterfaces = tt },
+                                                                        (
+                                                                          record { placed = refl; named = refl; public = refl; superclass = (refl, refl); superinterfaces = tt },
+                                                                          (
+                                                                            record { placed = refl; named = refl; public = refl; superclass = (refl, refl); superinterfaces = tt },
+                                                                            (
+                                                                              record { placed = refl; named = refl; public = refl; superclass = (refl, refl); superinterfaces = tt },
+                                                                              (
+                                                                                record { placed = refl; named = refl; public = refl; superclass = (refl, refl); superinterfaces = tt },
+                                                                                (
+                                                                                  record { placed = refl; named = refl; public = refl; superclass = (refl, refl); superinterfaces = tt },
+                                                                                  (
+                                                                                    record { placed = refl; named = refl; public = refl; superclass = (refl, refl); superinterfaces = tt },
+                                                                                    (
+                                                                                      record { placed = refl; named = refl; public = refl; superclass = (refl, refl); superinterfaces = tt },
+                                                                                      (
+                                                                                        record { placed = refl; named = refl; public = refl; superclass = (refl, refl); superinterfaces = tt },
+                                                                                        (
+                                                                                          record { placed = refl; named = refl; public = refl; superclass = (refl, refl); superinterfaces = tt },
+                                                                                          (
+                                                                                            record { placed = refl; named = refl; public = refl; superclass = (refl, refl); superinterfaces = tt },
+                                                                                            (
+                                                                                              record { placed = refl; named = refl; public = refl; superclass = (refl, refl); superinterfaces = tt },
+                                                                                              (record { placed = refl; named = refl; public = refl; superclass = (refl, refl); superinterfaces = tt }, tt),
+                                                                                            ),
+                                                                                          ),
+                                                                                        ),
+                                                                                      ),
+                                                                                    ),
+                                                                                  ),
+                                                                                ),
+                                                                              ),
+                                                                            ),
+                                                                          ),
+                                                                        ),
+                                                                      ),
+                                                                    ),
+                                                                  ),
+                                                                ),
+                                                              ),
+                                                            ),
+                                                          ),
+                                                        ),
+                                                      ),
+                                                    ),
+                                                  ),
+                                                ),
+                                              ),
+                                            ),
+                                          ),
+                                        ),
+                                      ),
+                                    ),
+                                  ),
+                                ),
+                              ),
+                            ),
+                          ),
+                        ),
+                      ),
+                    ),
+                  ),
+                ),
+              ),
+            ),
+          ),
+        ),
+      ),
+    ),
+  ),
+)
 
 pub all_called : EachRow MethodsCalled rows
 unfolding rows made with_code number signature
-all_called =
-    (((refl, refl), ((refl, refl), ((refl, refl), ((refl, refl), ((refl, refl), tt))))),
-    (((refl, refl), ((refl, refl), ((refl, refl), ((refl, refl), ((refl, refl), ((refl, refl), ((refl, refl), ((refl, refl), ((refl, refl), ((refl, refl), tt)))))))))),
-    (((refl, refl), ((refl, refl), ((refl, refl), ((refl, refl), ((refl, refl), ((refl, refl), ((refl, refl), ((refl, refl), tt)))))))),
-    (((refl, refl), tt),
-    (((refl, refl), ((refl, refl), ((refl, refl), ((refl, refl), ((refl, refl), ((refl, refl), ((refl, refl), ((refl, refl), ((refl, refl), ((refl, refl), ((refl, refl), tt))))))))))),
-    (((refl, refl), tt),
-    (tt,
-    ((refl, tt),
-    (((refl, refl), ((refl, refl), ((refl, refl), (refl, ((refl, refl), ((refl, refl), tt)))))),
-    (((refl, refl), tt),
-    (((refl, refl), ((refl, refl), ((refl, refl), tt))),
-    (((refl, refl), ((refl, refl), ((refl, refl), ((refl, refl), ((refl, refl), ((refl, refl), tt)))))),
-    (((refl, refl), ((refl, refl), ((refl, refl), ((refl, refl), ((refl, refl), tt))))),
-    (((refl, refl), ((refl, refl), ((refl, refl), tt))),
-    (((refl, refl), ((refl, refl), tt)),
-    (((refl, refl), ((refl, refl), ((refl, refl), tt))),
-    (((refl, refl), ((refl, refl), tt)),
-    (((refl, refl), ((refl, refl), tt)),
-    (((refl, refl), ((refl, refl), tt)),
-    (((refl, refl), ((refl, refl), tt)),
-    (((refl, refl), ((refl, refl), tt)),
-    (((refl, refl), ((refl, refl), tt)),
-    (((refl, refl), ((refl, refl), tt)),
-    (((refl, refl), ((refl, refl), tt)),
-    (((refl, refl), ((refl, refl), tt)),
-    (((refl, refl), ((refl, refl), tt)),
-    (((refl, refl), ((refl, refl), tt)),
-    (((refl, refl), ((refl, refl), tt)),
-    (((refl, refl), ((refl, refl), tt)),
-    (((refl, refl), ((refl, refl), tt)),
-    (((refl, refl), ((refl, refl), ((refl, refl), tt))),
-    (((refl, refl), ((refl, refl), tt)),
-    (((refl, refl), ((refl, refl), tt)),
-    (((refl, refl), ((refl, refl), tt)),
-    (((refl, refl), ((refl, refl), tt)),
-    (((refl, refl), ((refl, refl), tt)),
-    (((refl, refl), ((refl, refl), tt)),
-    (((refl, refl), ((refl, refl), tt)),
-    (((refl, refl), ((refl, refl), tt)),
-    (((refl, refl), ((refl, refl), tt)),
-    (((refl, refl), ((refl, refl), tt)),
-    (((refl, refl), ((refl, refl), tt)),
-    (((refl, refl), ((refl, refl), tt)),
-    (((refl, refl), ((refl, refl), tt)),
-    (((refl, refl), ((refl, refl), tt)),
-    (((refl, refl), ((refl, refl), tt)),
-    (((refl, refl), ((refl, refl), tt)),
-    (((refl, refl), ((refl, refl), tt)), tt))))))))))))))))))))))))))))))))))))))))))))))))
+all_called = (
+  ((refl, refl), ((refl, refl), ((refl, refl), ((refl, refl), ((refl, refl), tt))))),
+  (
+    ((refl, refl), ((refl, refl), ((refl, refl), ((refl, refl), ((refl, refl), ((refl, refl), ((refl, refl), ((refl, refl), ((refl, refl), ((refl, refl), tt)))))))))),
+    (
+      ((refl, refl), ((refl, refl), ((refl, refl), ((refl, refl), ((refl, refl), ((refl, refl), ((refl, refl), ((refl, refl), tt)))))))),
+      (
+        ((refl, refl), tt),
+        (
+          ((refl, refl), ((refl, refl), ((refl, refl), ((refl, refl), ((refl, refl), ((refl, refl), ((refl, refl), ((refl, refl), ((refl, refl), ((refl, refl), ((refl, refl), tt))))))))))),
+          (
+            ((refl, refl), tt),
+            (
+              tt,
+              (
+                (refl, tt),
+                (
+                  ((refl, refl), ((refl, refl), ((refl, refl), (refl, ((refl, refl), ((refl, refl), tt)))))),
+                  (
+                    ((refl, refl), tt),
+                    (
+                      ((refl, refl), ((refl, refl), ((refl, refl), tt))),
+                      (
+                        ((refl, refl), ((refl, refl), ((refl, refl), ((refl, refl), ((refl, refl), ((refl, refl), tt)))))),
+                        (
+                          ((refl, refl), ((refl, refl), ((refl, refl), ((refl, refl), ((refl, refl), tt))))),
+                          (
+                            ((refl, refl), ((refl, refl), ((refl, refl), tt))),
+                            (
+                              ((refl, refl), ((refl, refl), tt)),
+                              (
+                                ((refl, refl), ((refl, refl), ((refl, refl), tt))),
+                                (
+                                  ((refl, refl), ((refl, refl), tt)),
+                                  (
+                                    ((refl, refl), ((refl, refl), tt)),
+                                    (
+                                      ((refl, refl), ((refl, refl), tt)),
+                                      (
+                                        ((refl, refl), ((refl, refl), tt)),
+                                        (
+                                          ((refl, refl), ((refl, refl), tt)),
+                                          (
+                                            ((refl, refl), ((refl, refl), tt)),
+                                            (
+                                              ((refl, refl), ((refl, refl), tt)),
+                                              (
+                                                ((refl, refl), ((refl, refl), tt)),
+                                                (
+                                                  ((refl, refl), ((refl, refl), tt)),
+                                                  (
+                                                    ((refl, refl), ((refl, refl), tt)),
+                                                    (
+                                                      ((refl, refl), ((refl, refl), tt)),
+                                                      (
+                                                        ((refl, refl), ((refl, refl), tt)),
+                                                        (
+                                                          ((refl, refl), ((refl, refl), tt)),
+                                                          (
+                                                            ((refl, refl), ((refl, refl), tt)),
+                                                            (
+                                                              ((refl, refl), ((refl, refl), ((refl, refl), tt))),
+                                                              (
+                                                                ((refl, refl), ((refl, refl), tt)),
+                                                                (
+                                                                  ((refl, refl), ((refl, refl), tt)),
+                                                                  (
+                                                                    ((refl, refl), ((refl, refl), tt)),
+                                                                    (
+                                                                      ((refl, refl), ((refl, refl), tt)),
+                                                                      (
+                                                                        ((refl, refl), ((refl, refl), tt)),
+                                                                        (
+                                                                          ((refl, refl), ((refl, refl), tt)),
+                                                                          (
+                                                                            ((refl, refl), ((refl, refl), tt)),
+                                                                            (
+                                                                              ((refl, refl), ((refl, refl), tt)),
+                                                                              (
+                                                                                ((refl, refl), ((refl, refl), tt)),
+                                                                                (
+                                                                                  ((refl, refl), ((refl, refl), tt)),
+                                                                                  (
+                                                                                    ((refl, refl), ((refl, refl), tt)),
+                                                                                    (
+                                                                                      ((refl, refl), ((refl, refl), tt)),
+                                                                                      (
+                                                                                        ((refl, refl), ((refl, refl), tt)),
+                                                                                        (
+                                                                                          ((refl, refl), ((refl, refl), tt)),
+                                                                                          (
+                                                                                            ((refl, refl), ((refl, refl), tt)),
+                                                                                            (
+                                                                                              ((refl, refl), ((refl, refl), tt)),
+                                                                                              (((refl, refl), ((refl, refl), tt)), tt),
+                                                                                            ),
+                                                                                          ),
+                                                                                        ),
+                                                                                      ),
+                                                                                    ),
+                                                                                  ),
+                                                                                ),
+                                                                              ),
+                                                                            ),
+                                                                          ),
+                                                                        ),
+                                                                      ),
+                                                                    ),
+                                                                  ),
+                                                                ),
+                                                              ),
+                                                            ),
+                                                          ),
+                                                        ),
+                                                      ),
+                                                    ),
+                                                  ),
+                                                ),
+                                              ),
+                                            ),
+                                          ),
+                                        ),
+                                      ),
+                                    ),
+                                  ),
+                                ),
+                              ),
+                            ),
+                          ),
+                        ),
+                      ),
+                    ),
+                  ),
+                ),
+              ),
+            ),
+          ),
+        ),
+      ),
+    ),
+  ),
+)

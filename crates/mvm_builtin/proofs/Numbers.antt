@@ -10,11 +10,10 @@ use Rattle.mvm_layout.specs.declared.parts.Parts.{Parts}
 use Rattle.mvm_builtin.specs.Table.{Row, rows, named}
 use Rattle.mvm_builtin.specs.Classes.{made, builtin}
 use Rattle.mvm_builtin.specs.Natives.{number, native_at, native_in, native_in_row, native_method, IsCalled, IsMethodOf}
-use Rattle.mvm_builtin.specs.Rows.{EachRow}
 use Rattle.mvm_builtin.specs.declared.natives.Native.{Native}
 use Rattle.mvm_builtin.specs.declared.natives.Native.TheVariants as native
 use Rattle.mvm_builtin.specs.declared.natives.TheConstants.{NATIVES}
-use Rattle.mvm_builtin.proofs.Found.{found_named}
+use Rattle.mvm_builtin.proofs.Found.{EachRow, found_named}
 
 -- ---- numbers
 

@@ -9,7 +9,7 @@ use mvm_base::{Name, OutOfMemory};
 use mvm_classfile::ClassFile;
 use std::alloc::Global;
 
-/// The class file of a row, or `None` where there is no row.
+/// The class file of a row, or `None` where there is no row. No row of the table is refused, so what is left is want of memory.
 fn file_of(alloc: Global, row: Option<TableRow>) -> Result<Option<ClassFile>, OutOfMemory>
     requires { IfSome (option_map row_of row) IsReread }
     ensures { IfOk result (λ found. found ≡ option_map made (option_map row_of row)) }
