@@ -65,7 +65,7 @@ named_is name (row ∷ rows) = by (bytes_eq name row.head.name) (named_is name r
     by false later = later
 
 -- it has this name
-named_name : (name : List ℕ) (rows : List Row) (row : Row) → named name rows ≡ Some row → row.head.name ≡ name
+pub named_name : (name : List ℕ) (rows : List Row) (row : Row) → named name rows ≡ Some row → row.head.name ≡ name
 named_name name [] row e = absurd cc
 named_name name (one ∷ rows) row e = by (bytes_eq name one.head.name) refl e (named_name name rows row)
   where

@@ -3,3 +3,4 @@ pub mod Rows
 pub mod Classes
 pub mod Order
 pub mod Natives
+pub mod Index

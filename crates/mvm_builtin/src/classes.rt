@@ -27,7 +27,7 @@ fn file_of(alloc: Global, row: Option<TableRow>) -> Result<Option<ClassFile>, Ou
 pub fn builtin(alloc: Global, name: &Name) -> Result<Option<ClassFile>, OutOfMemory>
     ensures { IfOk result (λ found. found ≡ builtin name.now) }
 {
-    file_of(alloc, row_named(&TABLE, name))
+    file_of(alloc, row_named(name))
 }
 
 /// The built-in class at a place of the table, counted from 0, or `None` from [`crate::CLASSES`] on. Each class stands behind its supers.

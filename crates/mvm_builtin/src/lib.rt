@@ -9,6 +9,7 @@
 #![tactic(auto)]
 
 mod classes;
+mod index;
 mod laws;
 mod make;
 mod native_methods;
