@@ -3,7 +3,11 @@ use Rattle.std.proofs.Common.{ℕ, suc, zero, Bool, true, false, cond, List, [],
 use Rattle.std.specs.Prelude.{IfSome, slice_get}
 use Rattle.std.specs.Str.{bytes_eq}
 use Rattle.mvm_builtin.specs.Table.{Row, named}
-use Rattle.mvm_builtin.specs.Rows.{EachRow}
+
+-- something holds of each row, one after the other
+abbrev pub EachRow : (Row → Type 0) → List Row → Type 0
+EachRow P [] = Unit {0}
+EachRow P (row ∷ rows) = P row × EachRow P rows
 
 -- by name
 pub found_named : (P : Row → Type 0) (name : List ℕ) (rows : List Row) → EachRow P rows → IfSome (named name rows) P

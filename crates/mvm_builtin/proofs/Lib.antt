@@ -1,2 +1,6 @@
-pub mod Computed
+pub mod Order
 pub mod Found
+pub mod Numbers
+pub mod Halving
+pub mod Indexed
+pub mod Computed

@@ -49,6 +49,11 @@ abbrev pub rows_of : List Line → List Row
 rows_of [] = []
 rows_of (line ∷ lines) = if is_part Head line.sort then record { head = line; lines = until_class lines } ∷ rows_of lines else rows_of lines
 
+-- the class whose line is the first of these
+abbrev pub row_from : List Line → Option Row
+row_from [] = None
+row_from (line ∷ lines) = Some (record { head = line; lines = until_class lines })
+
 -- the class of a name
 abbrev pub named : List ℕ → List Row → Option Row
 named name [] = None

@@ -9,7 +9,7 @@ use mvm_base::{Name, OutOfMemory};
 use mvm_classfile::ClassFile;
 use std::alloc::Global;
 
-/// The class file of a row, or `None` where there is no row.
+/// The class file of a row, or `None` where there is no row. No row of the table is refused, so what is left is want of memory.
 fn file_of(alloc: Global, row: Option<TableRow>) -> Result<Option<ClassFile>, OutOfMemory>
     requires { IfSome (option_map row_of row) IsReread }
     ensures { IfOk result (λ found. found ≡ option_map made (option_map row_of row)) }
@@ -27,7 +27,7 @@ fn file_of(alloc: Global, row: Option<TableRow>) -> Result<Option<ClassFile>, Ou
 pub fn builtin(alloc: Global, name: &Name) -> Result<Option<ClassFile>, OutOfMemory>
     ensures { IfOk result (λ found. found ≡ builtin name.now) }
 {
-    file_of(alloc, row_named(&TABLE, name))
+    file_of(alloc, row_named(name))
 }
 
 /// The built-in class at a place of the table, counted from 0, or `None` from [`crate::CLASSES`] on. Each class stands behind its supers.

@@ -29,17 +29,23 @@ fn flags_of(sort: Sort) -> u16
     }
 }
 
+/// The index of the last entry of a pool (JVM Specification 4.1). No row has as many as would have none.
+fn last_index(pool: &List<Item>) -> Result<u16, OutOfMemory>
+    ensures { IfOk result (λ index. index ≡ length pool.now) }
+{
+    match u16::try_from(pool.len()) {
+        Ok(index) => Ok(index),
+        Err(_) => Err(OutOfMemory),
+    }
+}
+
 /// Adds a text to the pool, and says its index.
 fn push_text(alloc: Global, pool: &mut List<Item>, text: &str) -> Result<u16, OutOfMemory>
     ensures pool { OnOk result (pool.new ≡ pool.old ++ Item.Utf8 text.now ∷ []) }
     ensures index { IfOk result (λ index. index ≡ length pool.old + 1) }
 {
-    if pool.len() >= 65000 {
-        return Err(OutOfMemory);
-    }
-    let index = pool.len() as u16 + 1;
     pool.push(Item::Utf8(Name::from_ascii(alloc, text)?))?;
-    Ok(index)
+    last_index(pool)
 }
 
 /// Adds a class to the pool, its name and the class of it, and says its index.
@@ -48,11 +54,8 @@ fn push_class(alloc: Global, pool: &mut List<Item>, name: &str) -> Result<u16, O
     ensures index { IfOk result (λ index. index ≡ length pool.old + 2) }
 {
     let index = push_text(alloc, pool, name)?;
-    if pool.len() >= 65000 {
-        return Err(OutOfMemory);
-    }
     pool.push(Item::Class(index))?;
-    Ok(pool.len() as u16)
+    last_index(pool)
 }
 
 /// Adds the classes that the lines of a part name, and gives their indices.

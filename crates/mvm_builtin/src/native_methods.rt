@@ -1,10 +1,10 @@
 ghost use Rattle.std.specs.Prelude.{◌≡◌, slice_get};
-ghost use Rattle.mvm_builtin.specs.Table.{lines_of, rows_of, named};
-ghost use Rattle.mvm_builtin.specs.Natives.{number, native_at, native_of, native_in, native_in_row, native_method, native_number};
+ghost use Rattle.mvm_builtin.specs.Table.{lines_of};
+ghost use Rattle.mvm_builtin.specs.Natives.{number, native_at, native_of, native_in, native_method, native_number};
 
 use crate::natives::{NATIVES, Native};
 use crate::rows::row_named;
-use crate::table::{Sort, TABLE};
+use crate::table::Sort;
 use mvm_base::Name;
 use mvm_layout::pool::same_text;
 
@@ -58,27 +58,15 @@ fn native_in(lines: &[(Sort, &str, &str)], name: &Name, desc: &Name) -> Option<N
     None
 }
 
-/// The native method of a class, a name and a descriptor among the lines of a table.
-fn native_in_table(
-    lines: &'static [(Sort, &'static str, &'static str)],
-    class: &Name,
-    name: &Name,
-    desc: &Name,
-) -> Option<Native>
-    ensures { result ≡ native_in_row name.now desc.now (named class.now (rows_of (lines_of lines.now))) }
-{
-    match row_named(lines, class) {
-        Some(row) => native_in(row.lines, name, desc),
-        None => None,
-    }
-}
-
 /// The native method that a built-in class has under a name and a descriptor, or `None` where it has none.
-#[tactic(auto, unfolding(crate::specs::Natives::native_method, crate::specs::Table::rows))]
+#[tactic(auto, unfolding(crate::specs::Natives::native_method))]
 pub fn native_method(class: &Name, name: &Name, desc: &Name) -> Option<Native>
     ensures { result ≡ native_method class.now name.now desc.now }
 {
-    native_in_table(&TABLE, class, name, desc)
+    match row_named(class) {
+        Some(row) => native_in(row.lines, name, desc),
+        None => None,
+    }
 }
 
 /// The number of that native method.

@@ -1,11 +1,11 @@
-ghost use Rattle.std.specs.Prelude.{◌≡◌, slice_get, option_map};
-ghost use Rattle.mvm_builtin.specs.Table.{line_of, lines_of, until_class, rows_of, named};
+ghost use Rattle.std.specs.Prelude.{◌≡◌, slice_get, option_map, drop};
+ghost use Rattle.mvm_builtin.specs.Table.{line_of, lines_of, until_class, rows_of, row_from, named, rows};
 ghost use Rattle.mvm_builtin.specs.Rows.{row_of};
 
+use crate::index::{INDEX, line_in};
 use crate::parts::{Part, is_part};
-use crate::table::Sort;
+use crate::table::{Sort, TABLE};
 use mvm_base::Name;
-use mvm_layout::pool::same_text;
 
 /// A class of the table: its own line, and those behind it up to the next class.
 #[derive(Clone, Copy)]
@@ -28,21 +28,26 @@ fn until_class(
     lines
 }
 
-/// The class of a name among lines.
-pub(crate) fn row_named(
-    lines: &'static [(Sort, &'static str, &'static str)],
-    name: &Name,
-) -> Option<TableRow>
-    ensures { option_map row_of result ≡ named name.now (rows_of (lines_of lines.now)) }
+/// The class whose line stands at a place of lines.
+fn row_from(lines: &'static [(Sort, &'static str, &'static str)], at: usize) -> Option<TableRow>
+    ensures { option_map row_of result ≡ row_from (drop at (lines_of lines.now)) }
 {
-    for i in 0..lines.len() {
-        let head = lines[i];
-        if is_part(Part::Head, head.0) && same_text(name.units(), head.1.as_bytes()) {
-            let lines = until_class(&lines[i + 1..]);
-            return Some(TableRow { head, lines });
-        }
+    if at >= lines.len() {
+        return None;
     }
-    None
+    let head = lines[at];
+    let lines = until_class(&lines[at + 1..]);
+    Some(TableRow { head, lines })
+}
+
+/// The built-in class of a name.
+pub(crate) fn row_named(name: &Name) -> Option<TableRow>
+    ensures { option_map row_of result ≡ named name.now rows }
+{
+    match line_in(&INDEX, name) {
+        Some(line) => row_from(&TABLE, usize::from(line)),
+        None => None,
+    }
 }
 
 /// The class at a place among the classes of lines, from 0 on.

@@ -30,6 +30,9 @@ pub enum Sort {
 /// The descriptor of the constructor of a throwable that takes a message and a cause.
 const CAUSE: &str = "(Ljava/lang/String;Ljava/lang/Throwable;)V";
 
+/// How many built-in classes there are.
+pub const CLASSES: usize = 48;
+
 /// The built-in classes, each behind its supers: the lines of a class begin with its own and end before the next. The native
 /// methods are the only methods with a number.
 pub static TABLE: [(Sort, &str, &str); 234] = [
