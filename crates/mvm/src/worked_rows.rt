@@ -120,6 +120,18 @@ struct Answer {
     taken: List<u8>,
 }
 
+// What `launch` answers to the word `run`.
+fn run<R: Threads + Sync>(
+    rt: &R,
+    alloc: Global,
+    source: &mut MemorySource,
+    sink: &mut MemorySink,
+) -> Result<Ended, AllocError> {
+    let words = [String::from_str(alloc, "run")?];
+    let mut store = MemoryStore::new(List::new(alloc), List::new(alloc));
+    Ok(launch(rt, alloc, &words, source, &mut store, sink, &NoGate))
+}
+
 // A call with the word `run` over these bytes, of whose reads and writes those of these numbers fail, into a sink that takes so
 // many bytes a call.
 fn call<R: Threads + Sync>(
@@ -130,19 +142,9 @@ fn call<R: Threads + Sync>(
     most: usize,
     failing_write: Option<u64>,
 ) -> Result<Answer, AllocError> {
-    let words = [String::from_str(alloc, "run")?];
     let mut source = MemorySource::new(bytes, numbers(alloc, failing_read)?);
-    let mut store = MemoryStore::new(List::new(alloc), List::new(alloc));
     let mut sink = MemorySink::new(alloc, most, numbers(alloc, failing_write)?);
-    let ended = launch(
-        rt,
-        alloc,
-        &words,
-        &mut source,
-        &mut store,
-        &mut sink,
-        &NoGate,
-    );
+    let ended = run(rt, alloc, &mut source, &mut sink)?;
     Ok(Answer {
         status: ended.status,
         refusal: refusal_of(&ended),
