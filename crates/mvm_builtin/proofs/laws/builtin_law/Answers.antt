@@ -1,0 +1,14 @@
+use Rattle.mvm_builtin.proofs.Computed.{counted, all_kept}
+use Rattle.mvm_builtin.proofs.Order.{placed, placed_so, named_so, public_so, superclass_so, superinterfaces_so}
+use Rattle.mvm_builtin.proofs.laws.builtin_law.Goals as goal
+
+pub returns : goal.returns
+returns c = record {
+  count = counted;
+  placed = placed;
+  apart = λ place file e. (let p = placed_so place file all_kept e in (p.name, p.is_name, p.is_place));
+  named = λ name file e. named_so name file all_kept e;
+  public = λ name file e. public_so name file all_kept e;
+  superclass = λ name super file e s. superclass_so name super file all_kept e s;
+  superinterfaces = λ name file e. superinterfaces_so name file all_kept e;
+}

@@ -1,0 +1,10 @@
+pub mod Names
+pub mod Once
+pub mod Family
+pub mod ClassOf
+pub mod Over
+pub mod Seen
+pub mod Set
+pub mod Members
+pub mod Fields
+pub mod Access

@@ -1,0 +1,93 @@
+ghost use Rattle.std.specs.Prelude.{◌≡◌};
+ghost use Rattle.mvm_set.specs.Members.{field_at, method_at, flags_at};
+
+use crate::members::member_at;
+use crate::shared::Shared;
+use mvm_base::{List, Name};
+use mvm_classfile::ClassFile;
+use std::marker::Model;
+
+/// A file with the walk of its own class.
+#[derive(Debug, Drop)]
+pub struct OwnWalk {
+    /// The file.
+    pub file: Shared<ClassFile>,
+    /// The order of field resolution of its class (JVM Specification 5.4.3.2): the file itself, then the others, each class once,
+    /// at its first place.
+    pub walk: List<Shared<ClassFile>>,
+}
+
+/// A file with the walk of its own class, made for look-ups in it.
+#[derive(Debug, Drop)]
+pub struct Own {
+    own: OwnWalk,
+}
+
+impl Model for Own {
+    ghost use Rattle.mvm_set.specs.declared.own.OwnWalk.{OwnWalk as OwnWalkOf};
+
+    ghost Value = { OwnWalkOf };
+
+    ghost view = { λ o. o.own };
+}
+
+impl Own {
+    pub(crate) fn new(own: OwnWalk) -> Own
+        ensures { result ≡ own }
+    {
+        Own { own }
+    }
+
+    /// The file, as one owner of it.
+    pub fn shared_file(&self) -> &Shared<ClassFile>
+        ensures { result.now ≡ self.now.file }
+    {
+        &self.own.file
+    }
+
+    /// The file.
+    pub fn file(&self) -> &ClassFile
+        ensures { result.now ≡ self.now.file }
+    {
+        self.own.file.get()
+    }
+
+    /// The walk of its class.
+    pub fn walk(&self) -> &[Shared<ClassFile>]
+        ensures { result.now ≡ self.now.walk }
+    {
+        self.own.walk.as_slice()
+    }
+
+    /// The place of the file's field of this name and descriptor (JVM Specification 4.5).
+    #[tactic(auto, unfolding(crate::specs::Members::field_at))]
+    pub fn field_at(&self, name: &Name, desc: &Name) -> Option<u16>
+        ensures { result ≡ field_at name.now desc.now self.now.file }
+    {
+        let parts = self.file().parts();
+        member_at(&parts.pool, name, desc, &parts.fields)
+    }
+
+    /// The place of the file's method of this name and descriptor (JVM Specification 4.6).
+    #[tactic(auto, unfolding(crate::specs::Members::method_at))]
+    pub fn method_at(&self, name: &Name, desc: &Name) -> Option<u16>
+        ensures { result ≡ method_at name.now desc.now self.now.file }
+    {
+        let parts = self.file().parts();
+        member_at(&parts.pool, name, desc, &parts.methods)
+    }
+
+    /// The access flags of the file's method of this name and descriptor (JVM Specification 4.6), where it has one.
+    #[tactic(auto, unfolding(crate::specs::Members::flags_at))]
+    pub fn flags_at(&self, name: &Name, desc: &Name) -> Option<u16>
+        ensures { result ≡ flags_at name.now desc.now self.now.file }
+    {
+        match self.method_at(name, desc) {
+            Some(at) => match self.file().parts().methods.get(usize::from(at)) {
+                Some(method) => Some(method.flags),
+                None => None,
+            },
+            None => None,
+        }
+    }
+}

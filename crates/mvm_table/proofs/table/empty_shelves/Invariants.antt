@@ -1,0 +1,5 @@
+use Rattle.mvm_table.specs.Contents.{AreEmpty}
+use Rattle.mvm_table.proofs.table.empty_shelves.Given as goal
+
+abbrev pub invariant-loop : goal.invariant-loop
+invariant-loop l = AreEmpty l.shelves.items

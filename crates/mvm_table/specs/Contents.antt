@@ -1,0 +1,36 @@
+-- What a table stands for.
+use Rattle.std.specs.Prelude.{◌≡◌, ◌<◌, ◌^◌, ℕ, List, [], length, slice_get, Bool, is_some, Option, Some, None, All, Ok}
+use Rattle.mvm_set.specs.declared.class.Lineage.{Lineage}
+use Rattle.mvm_table.specs.Files.{File}
+use Rattle.mvm_table.specs.Loads.{class_in}
+use Rattle.mvm_table.specs.NameMap.{Rows, row}
+use Rattle.mvm_table.specs.declared.source.SourceRow.{SourceRow}
+
+-- of each set its files, and the classes that stand on its shelf
+pub record Contents : Type 0 where
+  pub files : List (List File)
+  pub shelves : List (Rows Lineage)
+
+abbrev pub or_empty : {X : Type 0} → Option (Rows X) → Rows X
+or_empty (Some rows) = rows
+or_empty None = []
+
+-- the shelf of a set
+abbrev pub shelf_of : {X : Type 0} → ℕ → List (Rows X) → Rows X
+shelf_of set shelves = or_empty (slice_get shelves set)
+
+-- a class of this name stands on the shelf of a set
+abbrev pub is_shelved : Contents → ℕ → List ℕ → Bool
+is_shelved table set name = is_some (row name (shelf_of set table.shelves))
+
+-- each class on a shelf is the one that loading gives for its name
+pub record AreShelved (files : List (List File)) (shelves : List (Rows Lineage)) : Type 0 where
+  pub each : (set : ℕ) (name : List ℕ) (class : Lineage) → row name (shelf_of set shelves) ≡ Some class → class_in files set name ≡ Ok class
+
+-- the bytes of each source can be counted in 32 bits
+abbrev pub AreShort : List SourceRow → Type 0
+AreShort sources = All (λ source. length source.bytes < 2 ^ 32) sources
+
+-- no class stands on a shelf
+abbrev pub AreEmpty : List (Rows Lineage) → Type 0
+AreEmpty shelves = (set : ℕ) → shelf_of set shelves ≡ []

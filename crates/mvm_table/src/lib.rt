@@ -1,0 +1,20 @@
+//! Classes: the classes of sets by name, loaded with all that they inherit from, and linked (JVM Specification 5.3, 5.4.1).
+//!
+//! To the layers above it promises: [`Table::class`] answers what `load` of `specs/Load.antt` gives for a name on the files of its set,
+//! the class or the first fault, unless memory runs out; and each class that it gives is the one that loading gives for its own
+//! name, as `IsLoaded` of `specs/Loads.antt` says. [`Table::linked`] answers, for such a class, what `linked` of `specs/Link.antt`
+//! gives for its name. Nobody learns that a file or a class is shared.
+#![tactic(auto)]
+
+mod begun;
+mod fault;
+mod find;
+mod link;
+mod load;
+mod name_map;
+mod source;
+mod table;
+
+pub use fault::LoadFault;
+pub use source::SourceRow;
+pub use table::Table;
