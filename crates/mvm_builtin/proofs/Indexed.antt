@@ -24,10 +24,8 @@ abbrev pub IsIndexed : Entry → Type 0
 IsIndexed entry = named entry.0 rows ≡ row_from (drop entry.1 table)
 
 -- a row's name has an entry
-pub record HasEntry (name : List ℕ) : Type 0 where
-  pub at : ℕ
-  pub within : at < length index
-  pub holds : HoldsAt (λ entry. entry.0 ≡ name) index at
+abbrev pub HasEntry : List ℕ → Type 0
+HasEntry name = (at : ℕ) × (at < length index) × HoldsAt (λ entry. entry.0 ≡ name) index at
 
 abbrev pub RowHasEntry : Row → Type 0
 RowHasEntry row = HasEntry row.head.name
@@ -47,4 +45,4 @@ unnamed name each none = by (named name rows) refl (found_named RowHasEntry name
     by (Some row) is e =
         let d : Entry = ([], 0) in
         let same : row.head.name ≡ name = named_name name rows row is in
-        absurd (none e.at d e.within (e.holds d ∙ same))
+        absurd (none e.0 d e.1 (e.2 d ∙ same))

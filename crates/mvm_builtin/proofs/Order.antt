@@ -31,12 +31,15 @@ abbrev SupersKept : List Row → ℕ → List Item → List ℕ → Type 0
 SupersKept all place pool [] = Unit {0}
 SupersKept all place pool (index ∷ indices) = SuperKept all true place (class_name pool index) × SupersKept all place pool indices
 
-pub record Kept (all : List Row) (place : ℕ) (row : Row) : Type 0 where
-  pub placed : rows_before row.head.name all ≡ place
-  pub named : own_name (made row) ≡ Some row.head.name
-  pub public : has_flag flag.PUBLIC (made row).flags ≡ true
-  pub superclass : SuperKept all false place (class_name (made row).pool (made row).super_class)
-  pub superinterfaces : SupersKept all place (made row).pool (made row).interfaces
+-- A row stands at the place of its name, its class calls itself by that name and is public, and its superclass and its superinterfaces are
+-- kept so.
+abbrev pub Kept : List Row → ℕ → Row → Type 0
+Kept all place row =
+    (rows_before row.head.name all ≡ place)
+    × (own_name (made row) ≡ Some row.head.name)
+    × (has_flag flag.PUBLIC (made row).flags ≡ true)
+    × SuperKept all false place (class_name (made row).pool (made row).super_class)
+    × SupersKept all place (made row).pool (made row).interfaces
 
 -- each of the rows that stand from a place on
 abbrev pub AllKept : List Row → ℕ → List Row → Type 0
@@ -108,13 +111,13 @@ pub named_so : (name : List ℕ) (file : Parts) → AllKept rows 0 rows → buil
 unfolding builtin
 named_so name file k e =
     let f : Found name rows file = found_in name rows file k e in
-    ap (λ (p : Parts). own_name p) (sym f.is_file) ∙ f.kept.named ∙ ap (λ (n : List ℕ). Some n) f.is_name
+    ap (λ (p : Parts). own_name p) (sym f.is_file) ∙ f.kept.1 ∙ ap (λ (n : List ℕ). Some n) f.is_name
 
 pub public_so : (name : List ℕ) (file : Parts) → AllKept rows 0 rows → builtin name ≡ Some file → has_flag flag.PUBLIC file.flags ≡ true
 unfolding builtin
 public_so name file k e =
     let f : Found name rows file = found_in name rows file k e in
-    ap (λ (p : Parts). has_flag flag.PUBLIC p.flags) (sym f.is_file) ∙ f.kept.public
+    ap (λ (p : Parts). has_flag flag.PUBLIC p.flags) (sym f.is_file) ∙ f.kept.2
 
 pub record Placed (place : ℕ) (file : Parts) : Type 0 where
   pub name : List ℕ
@@ -133,8 +136,8 @@ placed_so place file k e = by (slice_get rows place) refl e
         let zero_more : 0 + place ≡ place = omega arith in
         record {
           name = row.head.name;
-          is_name = ap (λ (p : Parts). own_name p) (sym same) ∙ kept.named;
-          is_place = kept.placed ∙ zero_more;
+          is_name = ap (λ (p : Parts). own_name p) (sym same) ∙ kept.1;
+          is_place = kept.0 ∙ zero_more;
         }
 
 super_so : (as_interface : Bool) (super name : List ℕ) → SuperKept rows as_interface (rows_before name rows) (Some super) → StandsBefore as_interface super name
@@ -150,7 +153,7 @@ unfolding builtin
 superclass_so name super file k e s =
     let f : Found name rows file = found_in name rows file k e in
     let is : class_name (made f.row).pool (made f.row).super_class ≡ Some super = ap (λ (p : Parts). class_name p.pool p.super_class) f.is_file ∙ s in
-    super_so false super name (subst (SuperKept rows false (rows_before name rows)) is f.kept.superclass)
+    super_so false super name (subst (SuperKept rows false (rows_before name rows)) is f.kept.3)
 
 each_so : (name : List ℕ) (pool : List Item) (indices : List ℕ) → SupersKept rows (rows_before name rows) pool indices → All (λ index. (super : List ℕ) → class_name pool index ≡ Some super → StandsBefore true super name) indices
 each_so name pool [] k = All-nil (λ index. (super : List ℕ) → class_name pool index ≡ Some super → StandsBefore true super name)
@@ -163,4 +166,4 @@ pub superinterfaces_so : (name : List ℕ) (file : Parts) → AllKept rows 0 row
 unfolding builtin
 superinterfaces_so name file k e =
     let f : Found name rows file = found_in name rows file k e in
-    subst (λ (p : Parts). All (λ index. (super : List ℕ) → class_name p.pool index ≡ Some super → StandsBefore true super name) p.interfaces) f.is_file (each_so name (made f.row).pool (made f.row).interfaces f.kept.superinterfaces)
+    subst (λ (p : Parts). All (λ index. (super : List ℕ) → class_name p.pool index ≡ Some super → StandsBefore true super name) p.interfaces) f.is_file (each_so name (made f.row).pool (made f.row).interfaces f.kept.4)
