@@ -1,10 +1,10 @@
 -- The row that the index leads to is that of the name.
-use Rattle.std.proofs.Common.{◌≡◌, ◌≢◌, ℕ, zero, suc, ◌+◌, ◌<◌, Bool, List, [], ◌∷◌, Option, Some, None, length, get_or, drop, refl, sym, ap, ◌∙◌, subst, arith}
+use Rattle.std.proofs.Common.{◌≡◌, ◌≢◌, ℕ, zero, suc, ◌+◌, ◌<◌, List, [], ◌∷◌, Option, Some, None, length, get_or, drop, refl, ◌∙◌, subst, arith}
 use Rattle.std.specs.Prelude.{All, IfSome}
 use Rattle.std.specs.List.{AllByRecursion, HoldsAt}
 use Rattle.std.specs.Borrow.{Bor}
 use Rattle.std.proofs.lemmas.List.Elements.{All-from_recursion}
-use Rattle.mvm_builtin.specs.Table.{Line, Row, line_of, lines_of, until_class, row_from, named, rows, table}
+use Rattle.mvm_builtin.specs.Table.{Row, line_of, lines_of, until_class, row_from, named, rows, table}
 use Rattle.mvm_builtin.specs.Index.{Entry, index, IsEntryOf}
 use Rattle.mvm_builtin.specs.declared.table.Sort.{Sort}
 use Rattle.mvm_builtin.proofs.Found.{EachRow, found_named}

@@ -1,6 +1,10 @@
 -- What each row keeps at its place, and what that says of the class of a name.
 use Rattle.std.proofs.Common.{◌≡◌, ℕ, zero, suc, ◌+◌, ◌<◌, Bool, true, false, cond, List, [], ◌∷◌, Option, Some, None, refl, sym, ap, ◌∙◌, subst, arith}
-use Rattle.std.specs.Prelude.{slice_get, nat_lt, All}
+use Rattle.std.specs.Prelude.{slice_get, nat_lt, All, IsSome, ◌↔◌, length}
+use Rattle.std.proofs.Common.{get_or}
+use Rattle.std.proofs.lemmas.Option.{slice_get_within, slice_get-get_or}
+use Rattle.mvm_builtin.specs.declared.table.TheConstants.{CLASSES}
+use Rattle.mvm_builtin.specs.declared.table.Sort.TheVariants.{Class}
 use Rattle.std.specs.Option.{option_map}
 use Rattle.std.specs.Str.{bytes_eq}
 use Rattle.std.proofs.lemmas.Bool.{ltb-true}
@@ -102,6 +106,19 @@ found_in name rows file k e = by (named name rows) refl e
         }
 
 -- ---- what it says of the built-in classes
+
+no_row : Row
+no_row = record { head = record { sort = Class; name = []; desc = [] }; lines = [] }
+
+pub count_so : (place : ℕ) → length rows ≡ CLASSES → IsSome (builtin_at place) ↔ (place < CLASSES)
+unfolding builtin_at
+count_so place counted = (λ some. below (slice_get rows place) refl some, λ h. at h)
+  where
+    below : (found : Option Row) → slice_get rows place ≡ found → IsSome (option_map made found) → place < CLASSES
+    below None is some = absurd cc
+    below (Some row) is some = let within : place < length rows = slice_get_within rows place row is in omega (arith, counted)
+    at : place < CLASSES → IsSome (option_map made (slice_get rows place))
+    at h = let within : place < length rows = omega (arith, counted) in let is : slice_get rows place ≡ Some (get_or rows place no_row) = slice_get-get_or rows place no_row within in subst (λ (found : Option Row). IsSome (option_map made found)) (sym is) refl
 
 pub placed : (name : List ℕ) → builtin name ≡ builtin_at (place_of name)
 unfolding builtin builtin_at place_of
