@@ -117,6 +117,7 @@ count_so place counted = (λ some. below (slice_get rows place) refl some, λ h.
     below : (found : Option Row) → slice_get rows place ≡ found → IsSome (option_map made found) → place < CLASSES
     below None is some = absurd cc
     below (Some row) is some = let within : place < length rows = slice_get_within rows place row is in omega (arith, counted)
+
     at : place < CLASSES → IsSome (option_map made (slice_get rows place))
     at h = let within : place < length rows = omega (arith, counted) in let is : slice_get rows place ≡ Some (get_or rows place no_row) = slice_get-get_or rows place no_row within in subst (λ (found : Option Row). IsSome (option_map made found)) (sym is) refl
 

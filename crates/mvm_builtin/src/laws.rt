@@ -1,8 +1,9 @@
-ghost use Rattle.std.specs.Prelude.{◌≡◌, ◌↔◌, ◌<◌, ℕ, List, All, Some, IsSome, true, false};
+ghost use Rattle.std.specs.Prelude.{◌≡◌, ◌↔◌, ◌<◌, ℕ, List, All, Some, IsSome, Ok, true, false};
 ghost use Rattle.mvm_layout.specs.Flags.{has_flag};
 ghost use Rattle.mvm_layout.specs.Pool.{class_name};
 ghost use Rattle.mvm_layout.specs.declared.flags.TheConstants.{PUBLIC};
 ghost use Rattle.mvm_layout.specs.declared.parts.Parts.{Parts};
+ghost use Rattle.mvm_check.specs.Check.{check_of};
 ghost use Rattle.mvm_builtin.specs.Classes.{builtin, builtin_at};
 ghost use Rattle.mvm_builtin.specs.Natives.{number, native_at, IsMethodOf};
 ghost use Rattle.mvm_builtin.specs.Order.{place_of, own_name, StandsBefore};
@@ -22,6 +23,8 @@ pub fn builtin_law()
     ensures named { (name : List ℕ) (file : Parts) → builtin name ≡ Some file → own_name file ≡ Some name }
     // Each is public.
     ensures public { (name : List ℕ) (file : Parts) → builtin name ≡ Some file → has_flag PUBLIC file.flags ≡ true }
+    // Its code keeps the static constraints on code, so that linking it finds no fault.
+    ensures checked { (name : List ℕ) (file : Parts) → builtin name ≡ Some file → check_of file ≡ Ok tt }
     // The superclass of each is a built-in class, no interface, that stands before it.
     ensures superclass { (name super : List ℕ) (file : Parts) → builtin name ≡ Some file → class_name file.pool file.super_class ≡ Some super → StandsBefore false super name }
     // Each superinterface is a built-in interface that stands before it.
