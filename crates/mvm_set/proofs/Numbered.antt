@@ -14,7 +14,6 @@ use Rattle.std.proofs.lemmas.Slice.Eq.{bytes_eq-Decides}
 use Rattle.mvm_layout.specs.Pool.{text, is_text}
 use Rattle.mvm_layout.specs.declared.parts.Item.{Item}
 use Rattle.mvm_layout.specs.declared.parts.Member.{Member}
-use Rattle.mvm_set.specs.Members.{is_member, member_from}
 use Rattle.mvm_set.proofs.Sources.{key_cmp, source_added}
 use Rattle.mvm_set.specs.Set.{look}
 use Rattle.mvm_set.specs.Index.{AreNumbers, HasNumber, HasNumbers, KeepNumbers, number_in, pair_cmp, place_of, is_pair, AddsPlace, IsIndex}

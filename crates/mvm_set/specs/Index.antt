@@ -1,5 +1,5 @@
 -- A file's members, to be looked up: texts have numbers, and pairs of numbers have places.
-use Rattle.std.specs.Prelude.{◌≡◌, ◌==◌, ◌&&◌, ℕ, List, Bool, false, if◌then◌else◌, All, IsSome, Option, Some, None}
+use Rattle.std.specs.Prelude.{◌≡◌, ◌==◌, ◌&&◌, ℕ, List, Bool, false, if◌then◌else◌, IsSome, Option, Some, None}
 use Rattle.std.specs.BTreeMap as tree
 use Rattle.std.specs.BTreeMap.{BTreeMap}
 use Rattle.std.specs.Ordering.{nat_cmp, ordering_then}

@@ -1,6 +1,5 @@
 use Rattle.std.proofs.Common.{◌≡◌, ℕ, ◌+◌, ◌-◌, ◌<◌, ◌∷◌, length, drop, sym, ap, subst, ◌∙◌, arith}
 use Rattle.std.proofs.lemmas.Grind.{common_steps}
-use Rattle.mvm_layout.specs.declared.parts.Member.{Member}
 use Rattle.mvm_set.specs.Index.{HasNumbers, IsIndex}
 use Rattle.mvm_set.specs.Members.{member_from}
 use Rattle.mvm_set.specs.Set.{look}

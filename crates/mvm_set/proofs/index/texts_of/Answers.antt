@@ -1,5 +1,3 @@
-use Rattle.std.proofs.Common.{◌≡◌, List, subst}
-use Rattle.std.specs.List.{All}
 use Rattle.mvm_set.specs.Set.{look}
 use Rattle.mvm_set.proofs.Numbered.{no_numbers, kept_all}
 use Rattle.mvm_set.proofs.index.texts_of.Goals as goal

@@ -1,4 +1,3 @@
-use Rattle.std.proofs.Common.{◌≡◌, sym, ap, ◌∙◌}
 use Rattle.mvm_set.proofs.Counted.{few_fields, few_methods}
 use Rattle.mvm_set.proofs.index.Index.new.Goals as goal
 
