@@ -1,0 +1,120 @@
+ghost use Rattle.std.specs.Prelude.{◌≡◌, ◌<◌, ◌^◌, length, Some};
+ghost use Rattle.mvm_select.specs.Told.{place_from, place_of, named_in, named};
+
+use mvm_base::Name;
+use mvm_classfile::{ClassFile, Member};
+use mvm_layout::pool::text;
+use mvm_set::{Found, MethodAt, Own, Shared, is_same};
+use std::marker::Model;
+
+/// The place of the class of this file in a walk.
+fn place_in(file: &ClassFile, walk: &[Shared<Own>]) -> Option<u32>
+    requires { length walk.now < 2 ^ 32 }
+    ensures { result ≡ place_from 0 file.now walk.now }
+{
+    for i in 0..walk.len() {
+        if is_same(walk[i].get().file(), file) {
+            return Some(i as u32);
+        }
+    }
+    None
+}
+
+/// Where the method of this name and descriptor of a class is found in a walk.
+#[tactic(auto, unfolding(crate::specs::Told::place_of))]
+pub(crate) fn place_of(name: &Name, desc: &Name, walk: &[Shared<Own>], own: &Own) -> Option<Found>
+    requires { length walk.now < 2 ^ 32 }
+    ensures { result ≡ place_of name.now desc.now walk.now own.now.file }
+{
+    match place_in(own.file(), walk) {
+        Some(holder) => match own.method_at(name, desc) {
+            Some(index) => Some(Found { holder, index }),
+            None => None,
+        },
+        None => None,
+    }
+}
+
+/// A method by the class that declares it, its name and its descriptor.
+#[derive(Drop)]
+pub(crate) struct NamedMethod<'a> {
+    holder: &'a Own,
+    name: &'a Name,
+    desc: &'a Name,
+}
+
+impl<'a> Model for NamedMethod<'a> {
+    ghost use Rattle.mvm_select.specs.Told.{Named as NamedOf};
+
+    ghost Value = { NamedOf };
+
+    ghost view = { λ n. record { holder = n.holder.now.file; name = n.name.now; desc = n.desc.now } };
+}
+
+impl<'a> NamedMethod<'a> {
+    /// The class that declares it.
+    pub(crate) fn holder(&self) -> &'a Own
+        ensures { result.now.file ≡ self.now.holder }
+    {
+        self.holder
+    }
+
+    /// Its name.
+    pub(crate) fn name(&self) -> &'a Name
+        ensures { result.now ≡ self.now.name }
+    {
+        self.name
+    }
+
+    /// Its descriptor.
+    pub(crate) fn desc(&self) -> &'a Name
+        ensures { result.now ≡ self.now.desc }
+    {
+        self.desc
+    }
+}
+
+/// The method of a class by its name and descriptor.
+fn named_in<'a>(own: &'a Own, method: &Member) -> Option<NamedMethod<'a>>
+    ensures { result ≡ named_in own.now.file (Some method.now) }
+{
+    let pool = &own.file().parts().pool;
+    match text(pool, method.name) {
+        Some(name) => match text(pool, method.desc) {
+            Some(desc) => Some(NamedMethod {
+                holder: own,
+                name,
+                desc,
+            }),
+            None => None,
+        },
+        None => None,
+    }
+}
+
+/// What a resolved method names.
+#[tactic(auto, unfolding(crate::specs::Told::named))]
+pub(crate) fn named(resolved: &MethodAt) -> Option<NamedMethod<'_>>
+    ensures { result ≡ named resolved.now }
+{
+    match resolved
+        .class
+        .get()
+        .walk()
+        .get(resolved.found.holder as usize)
+    {
+        Some(own) => {
+            let own = own.get();
+            match own
+                .file()
+                .parts()
+                .methods
+                .get(usize::from(resolved.found.index))
+            {
+                Some(method) => named_in(own, method),
+                None => None,
+            }
+        }
+        None => None,
+    }
+}
