@@ -34,10 +34,10 @@ unfolding class_of
 walks-are set none = refl
 walks-are set (more one others) = ap (λ (zs : List OwnWalk). map own_walk (walk one) ++ zs) (walks-are set others) ∙ sym (map-append own_walk (walk one) (walks_in others))
 
-checked-are : (set : ℕ) (ones : Families) → checked_of (classes_of set ones) ≡ map file (checked_in ones)
+checked-are : (set : ℕ) (ones : Families) → checked_of (classes_of set ones) ≡ map own_walk (checked_in ones)
 unfolding class_of
 checked-are set none = refl
-checked-are set (more one others) = ap (λ (zs : List Parts). map file (checked one) ++ zs) (checked-are set others) ∙ sym (map-append file (checked one) (checked_in others))
+checked-are set (more one others) = ap (λ (zs : List OwnWalk). map own_walk (checked one) ++ zs) (checked-are set others) ∙ sym (map-append own_walk (checked one) (checked_in others))
 
 rest-are : (set : ℕ) (across above : Families) → walks_of (classes_of set across) ++ walks_of (classes_of set above) ≡ map own_walk (walks_in across ++ walks_in above)
 rest-are set across above =
@@ -102,15 +102,18 @@ all_walk set parts above across =
     once-map own_walk own_walk_name (family parts above across ∷ walks_in across ++ walks_in above)
     ∙ ap (map own_walk) (walk-over parts above across)
 
-all_checked : (set : ℕ) (parts : Parts) (above across : Families) → once own_name (parts ∷ checked_of (classes_of set above) ++ checked_of (classes_of set across)) ≡ map file (checked (family parts above across))
+all_checked : (set : ℕ) (parts : Parts) (above across : Families)
+    → once own_walk_name (own_walk (family parts above across) ∷ checked_of (classes_of set above) ++ checked_of (classes_of set across)) ≡ map own_walk (checked (family parts above across))
+unfolding own_walk
 all_checked set parts above across =
-    ap (λ (zs : List Parts). once own_name (parts ∷ zs ++ checked_of (classes_of set across))) (checked-are set above)
-    ∙ ap (λ (zs : List Parts). once own_name (parts ∷ map file (checked_in above) ++ zs)) (checked-are set across)
-    ∙ ap (λ (zs : List Parts). once own_name (parts ∷ zs)) (sym (map-append file (checked_in above) (checked_in across)))
-    ∙ once-map file own_name (family parts above across ∷ checked_in above ++ checked_in across)
-    ∙ ap (map file) (checked-over parts above across)
+    let own = own_walk (family parts above across) in
+    ap (λ (zs : List OwnWalk). once own_walk_name (own ∷ zs ++ checked_of (classes_of set across))) (checked-are set above)
+    ∙ ap (λ (zs : List OwnWalk). once own_walk_name (own ∷ map own_walk (checked_in above) ++ zs)) (checked-are set across)
+    ∙ ap (λ (zs : List OwnWalk). once own_walk_name (own ∷ zs)) (sym (map-append own_walk (checked_in above) (checked_in across)))
+    ∙ once-map own_walk own_walk_name (family parts above across ∷ checked_in above ++ checked_in across)
+    ∙ ap (map own_walk) (checked-over parts above across)
 
-abbrev lineage_with : ℕ → Parts → List OwnWalk → List OwnWalk → List Parts → Lineage
+abbrev lineage_with : ℕ → Parts → List OwnWalk → List OwnWalk → List OwnWalk → Lineage
 lineage_with set file line walk checked = record { set = set; file = file; line = line; walk = walk; checked = checked }
 
 pub class_law : (set : ℕ) (parts : Parts) (above across : Families) → class_over set parts (classes_of set above) (classes_of set across) ≡ class_of set (family parts above across)
@@ -118,9 +121,9 @@ unfolding class_over class_of line
 class_law set parts above across =
     let one = family parts above across in
     let rest = walks_of (classes_of set across) ++ walks_of (classes_of set above) in
-    let files = once own_name (parts ∷ checked_of (classes_of set above) ++ checked_of (classes_of set across)) in
-    ap (λ (own : OwnWalk). lineage_with set parts (own ∷ lines_of (classes_of set above)) (once own_walk_name (own ∷ rest)) files) (own-over set parts above across)
-    ∙ ap (λ (zs : List OwnWalk). lineage_with set parts (own_walk one ∷ zs) (once own_walk_name (own_walk one ∷ rest)) files) (lines-are set above)
-    ∙ ap (λ (zs : List OwnWalk). lineage_with set parts (own_walk one ∷ map own_walk (lines above)) (once own_walk_name (own_walk one ∷ zs)) files) (rest-are set across above)
-    ∙ ap (λ (zs : List OwnWalk). lineage_with set parts (own_walk one ∷ map own_walk (lines above)) zs files) (all_walk set parts above across)
-    ∙ ap (λ (zs : List Parts). lineage_with set parts (own_walk one ∷ map own_walk (lines above)) (map own_walk (walk one)) zs) (all_checked set parts above across)
+    let checks = checked_of (classes_of set above) ++ checked_of (classes_of set across) in
+    ap (λ (own : OwnWalk). lineage_with set parts (own ∷ lines_of (classes_of set above)) (once own_walk_name (own ∷ rest)) (once own_walk_name (own ∷ checks))) (own-over set parts above across)
+    ∙ ap (λ (zs : List OwnWalk). lineage_with set parts (own_walk one ∷ zs) (once own_walk_name (own_walk one ∷ rest)) (once own_walk_name (own_walk one ∷ checks))) (lines-are set above)
+    ∙ ap (λ (zs : List OwnWalk). lineage_with set parts (own_walk one ∷ map own_walk (lines above)) (once own_walk_name (own_walk one ∷ zs)) (once own_walk_name (own_walk one ∷ checks))) (rest-are set across above)
+    ∙ ap (λ (zs : List OwnWalk). lineage_with set parts (own_walk one ∷ map own_walk (lines above)) zs (once own_walk_name (own_walk one ∷ checks))) (all_walk set parts above across)
+    ∙ ap (λ (zs : List OwnWalk). lineage_with set parts (own_walk one ∷ map own_walk (lines above)) (map own_walk (walk one)) zs) (all_checked set parts above across)

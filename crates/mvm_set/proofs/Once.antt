@@ -102,7 +102,7 @@ module _ {A : Type 0} (name : A → Option (List ℕ)) where
 -- ---- of what stands for others
 
 module _ {A B : Type 0} (f : A → B) where
-  filter-map : (test : B → Bool) (xs : List A) → filter test (map f xs) ≡ map f (filter (λ x. test (f x)) xs)
+  pub filter-map : (test : B → Bool) (xs : List A) → filter test (map f xs) ≡ map f (filter (λ x. test (f x)) xs)
   filter-map test [] = refl
   filter-map test (x ∷ xs) = by (test (f x)) (filter-map test xs)
     where

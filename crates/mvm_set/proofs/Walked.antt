@@ -112,10 +112,10 @@ first-map f look [] = refl
 first-map f look (x ∷ xs) = ap (or_else (look (f x))) (first-map f look xs)
 
 pub checked_law : {A : Type 0} (check : Parts → Option A) (kept : List ℕ → Option Family) (set : ℕ) (one : Family) → AreKept name kept (visited one)
-    → first check (class_of set one).checked ≡ fault_in (λ other. check (file other)) one
-unfolding checked class_of
+    → first (λ own. check own.file) (class_of set one).checked ≡ fault_in (λ other. check (file other)) one
+unfolding checked class_of own_walk
 checked_law check kept set one k =
-    first-map file check (checked one)
+    first-map own_walk (λ own. check own.file) (checked one)
     ∙ first-once name kept (λ other. check (file other)) (order one) (kept-order kept one k)
     ∙ first-order (λ other. check (file other)) one
 

@@ -22,7 +22,7 @@ class_of set one = record {
   file = file one;
   line = map own_walk (line one);
   walk = map own_walk (walk one);
-  checked = map file (checked one);
+  checked = map own_walk (checked one);
 }
 
 -- the classes of these families

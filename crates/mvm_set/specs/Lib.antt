@@ -3,6 +3,7 @@ pub mod Once
 pub mod Family
 pub mod ClassOf
 pub mod Over
+pub mod Seen
 pub mod Set
 pub mod Members
 pub mod Fields

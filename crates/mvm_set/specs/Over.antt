@@ -1,6 +1,8 @@
 -- A class put together from its file and from the classes of its direct superclass and superinterfaces.
-use Rattle.std.specs.Prelude.{ℕ, List, [], ◌∷◌, ◌++◌, map}
+use Rattle.std.specs.Prelude.{◌≡◌, ◌<◌, ◌^◌, ℕ, List, [], ◌∷◌, ◌++◌, length, map, not}
+use Rattle.std.specs.List.{filter}
 use Rattle.mvm_layout.specs.declared.parts.Parts.{Parts}
+use Rattle.mvm_shape.specs.Members.{same_text}
 use Rattle.mvm_set.specs.ClassOf.{own_walk_name}
 use Rattle.mvm_set.specs.Names.{own_name}
 use Rattle.mvm_set.specs.Once.{once}
@@ -19,9 +21,17 @@ abbrev pub walks_of : List Lineage → List OwnWalk
 walks_of [] = []
 walks_of (class ∷ classes) = class.walk ++ walks_of classes
 
-abbrev pub checked_of : List Lineage → List Parts
+abbrev pub checked_of : List Lineage → List OwnWalk
 checked_of [] = []
 checked_of (class ∷ classes) = class.checked ++ checked_of classes
+
+-- those of another class than the file's, each name once
+abbrev pub others_than : Parts → List OwnWalk → List OwnWalk
+others_than file owns = filter (λ own. not (same_text (own_walk_name own) (own_name file))) (once own_walk_name owns)
+
+-- a file with its walk, where the others of the walk are these
+abbrev pub own_of : Parts → List OwnWalk → OwnWalk
+own_of file others = record { file = file; walk = file ∷ map file_of others }
 
 -- a file, with its walk: itself, what its superinterfaces have, what its superclass has, each once
 unfoldable pub own_over : Parts → List Lineage → List Lineage → OwnWalk
@@ -37,5 +47,12 @@ class_over set file above across = record {
   file = file;
   line = own_over file above across ∷ lines_of above;
   walk = once own_walk_name (own_over file above across ∷ walks_of across ++ walks_of above);
-  checked = once own_name (file ∷ checked_of above ++ checked_of across);
+  checked = once own_walk_name (own_over file above across ∷ checked_of above ++ checked_of across);
 }
+
+-- What every class keeps: each name stands once in its walk and once in its order of verification, and the places of its walk can
+-- be counted in 32 bits.
+pub record IsClass (class : Lineage) : Type 0 where
+  pub few : length class.walk < 2 ^ 32
+  pub walk_once : once own_walk_name class.walk ≡ class.walk
+  pub checked_once : once own_walk_name class.checked ≡ class.checked

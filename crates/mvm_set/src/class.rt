@@ -1,10 +1,18 @@
-ghost use Rattle.std.specs.Prelude.{◌≡◌, ◌<◌, ◌^◌, length};
+ghost use Rattle.std.specs.Prelude.{◌≡◌, ◌<◌, ◌^◌, length, IfOk};
+ghost use Rattle.mvm_set.specs.ClassOf.{own_walk_name};
+ghost use Rattle.mvm_set.specs.Once.{once};
+ghost use Rattle.mvm_set.specs.Over.{class_over};
 
+use crate::join::{in_front, in_front_of_lines, other_checked, other_walks, own_of};
 use crate::own::Own;
 use crate::shared::Shared;
-use mvm_base::List;
+use mvm_base::{List, OutOfMemory};
 use mvm_classfile::ClassFile;
+use std::alloc::Global;
 use std::marker::Model;
+
+/// How many classes can be counted in a u32: 4,294,967,295.
+const MOST_CLASSES: usize = 0xFFFF_FFFF;
 
 /// A class of a set, with all that it inherits from.
 #[derive(Debug, Drop)]
@@ -20,7 +28,7 @@ pub struct Lineage {
     pub walk: List<Shared<Own>>,
     /// The order of verification (JVM Specification 5.4.1): the class, what its superclass has, what its direct superinterfaces
     /// have, in their order, each class once, at its first place.
-    pub checked: List<Shared<ClassFile>>,
+    pub checked: List<Shared<Own>>,
 }
 
 /// A class of a set, of which the places can be counted in a u32.
@@ -30,17 +38,52 @@ pub struct Class {
 }
 
 impl Model for Class {
-    ghost use Rattle.std.specs.Prelude.{◌<◌, ◌^◌, length};
     ghost use Rattle.mvm_set.specs.declared.class.Lineage.{Lineage as LineageOf};
+    ghost use Rattle.mvm_set.specs.Over.{IsClass};
 
     ghost Value = { LineageOf };
 
     ghost view = { λ c. c.lineage };
 
-    ghost invariant = { λ c. length c.lineage.walk < 2 ^ 32 };
+    ghost invariant = { λ c. IsClass c.lineage };
 }
 
 impl Class {
+    /// The class of a set that a file defines, over the classes of its direct superclass, if it has one, and of its direct
+    /// superinterfaces in their order.
+    ///
+    /// # Errors
+    ///
+    /// `OutOfMemory` where memory runs out, and where the walk would have 2^32 classes.
+    #[tactic(auto, using(crate::proofs::Over::class_made))]
+    pub fn over(
+        alloc: Global,
+        set: u32,
+        file: Shared<ClassFile>,
+        above: &[Shared<Class>],
+        across: &[Shared<Class>],
+    ) -> Result<Class, OutOfMemory>
+        ensures { IfOk result (λ class. class ≡ class_over set file above.now across.now) }
+    {
+        let others = other_walks(alloc, file.get(), above, across)?;
+        let checks = other_checked(alloc, file.get(), above, across)?;
+        let own = own_of(alloc, file.share()?, others.as_slice())?;
+        let line = in_front_of_lines(alloc, &own, above)?;
+        let walk = in_front(alloc, &own, others.as_slice())?;
+        let checked = in_front(alloc, &own, checks.as_slice())?;
+        if walk.len() > MOST_CLASSES {
+            return Err(OutOfMemory);
+        }
+        let lineage = Lineage {
+            set,
+            file,
+            line,
+            walk,
+            checked,
+        };
+        Ok(Class { lineage })
+    }
+
     /// The number of its set.
     pub fn set(&self) -> u32
         ensures { result ≡ self.now.set }
@@ -66,13 +109,17 @@ impl Class {
     pub fn walk(&self) -> &[Shared<Own>]
         ensures value { result.now ≡ self.now.walk }
         ensures few { length self.now.walk < 2 ^ 32 }
+        // Each name stands there once.
+        ensures once { once own_walk_name self.now.walk ≡ self.now.walk }
     {
         self.lineage.walk.as_slice()
     }
 
     /// The order of verification (JVM Specification 5.4.1).
-    pub fn checked(&self) -> &[Shared<ClassFile>]
-        ensures { result.now ≡ self.now.checked }
+    pub fn checked(&self) -> &[Shared<Own>]
+        ensures value { result.now ≡ self.now.checked }
+        // Each name stands there once.
+        ensures once { once own_walk_name self.now.checked ≡ self.now.checked }
     {
         self.lineage.checked.as_slice()
     }

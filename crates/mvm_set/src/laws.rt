@@ -24,7 +24,7 @@ pub fn walk_law()
 /// The first fault in the order of verification, each class once, is that of the rule (JVM Specification 5.4.1): of the class, then
 /// of its superclass by this rule, then of its direct superinterfaces in order by this rule; where those of one name are one.
 pub fn checked_law()
-    ensures { (check : PartsOf → Option ℕ) (kept : List ℕ → Option Family) (set : ℕ) (one : Family) → AreKept name kept (visited one) → first check (class_of set one).checked ≡ fault_in (λ other. check (file other)) one }
+    ensures { (check : PartsOf → Option ℕ) (kept : List ℕ → Option Family) (set : ℕ) (one : Family) → AreKept name kept (visited one) → first (λ own. check own.file) (class_of set one).checked ≡ fault_in (λ other. check (file other)) one }
 {}
 
 /// A class is a subclass exactly of itself and of those that it inherits from, each by its name.

@@ -12,6 +12,7 @@ mod class;
 mod fault;
 mod fields;
 mod found;
+mod join;
 mod laws;
 mod members;
 mod names;

@@ -38,6 +38,13 @@ impl Own {
         Own { own }
     }
 
+    /// The file, as one owner of it.
+    pub fn shared_file(&self) -> &Shared<ClassFile>
+        ensures { result.now ≡ self.now.file }
+    {
+        &self.own.file
+    }
+
     /// The file.
     pub fn file(&self) -> &ClassFile
         ensures { result.now ≡ self.now.file }
