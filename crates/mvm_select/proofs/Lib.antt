@@ -6,3 +6,5 @@ pub mod Ruling
 pub mod Selecting
 pub mod Telling
 pub mod Meaning
+pub mod Places
+pub mod Whole

@@ -7,6 +7,7 @@ use Rattle.mvm_set.specs.Family.{Family, file, walk}
 use Rattle.mvm_set.specs.Members.{method_at, flags_at, flags_in}
 use Rattle.mvm_set.specs.Names.{is_same}
 use Rattle.mvm_set.specs.declared.fault.LinkFault.{LinkFault}
+use Rattle.mvm_set.specs.declared.found.Found.{Found}
 use Rattle.mvm_set.specs.declared.own.OwnWalk.{OwnWalk}
 use Rattle.mvm_select.specs.Families.{Stands, IsWhole}
 use Rattle.mvm_select.specs.Meaning.{Tells}
@@ -15,29 +16,30 @@ use Rattle.mvm_select.specs.Told.{place_from, found_at, place_of, or_fault, told
 use Rattle.mvm_select.proofs.Lists.{In}
 use Rattle.mvm_select.proofs.Walks.{in_walk, walk_stands}
 
-at_end : (before : List OwnWalk) (own : OwnWalk) (behind : List OwnWalk) → slice_get (before ++ own ∷ behind) (length before) ≡ Some own
+pub at_end : (before : List OwnWalk) (own : OwnWalk) (behind : List OwnWalk) → slice_get (before ++ own ∷ behind) (length before) ≡ Some own
 at_end [] own behind = refl
 at_end (other ∷ before) own behind = at_end before own behind
 
--- the place of a class of this name
-record Placed (base : Parts) (xs : List Family) (all : List OwnWalk) (found : Option ℕ) : Type 0 where
+-- the first class of this name
+record Placed (name desc : List ℕ) (base : Parts) (xs : List Family) (all : List OwnWalk) (found : Option Found) : Type 0 where
   at : ℕ
   item : Family
   is_in : In xs item
-  is_found : found ≡ Some at
+  is_found : found ≡ found_at at (method_at name desc (file item))
   is_there : slice_get all at ≡ Some (own_walk item)
   same : is_same (file item) base ≡ true
 
-placed : (base : Parts) (before : List OwnWalk) (xs : List Family) (x : Family) → In xs x → is_same (file x) base ≡ true
-    → Placed base xs (before ++ map own_walk xs) (place_from (length before) base (map own_walk xs))
+placed : (name desc : List ℕ) (base : Parts) (before : List OwnWalk) (xs : List Family) (x : Family) → In xs x → is_same (file x) base ≡ true
+    → Placed name desc base xs (before ++ map own_walk xs) (place_from (length before) name desc (map own_walk xs) base)
 unfolding own_walk
-placed base before [] x h e = absurd h
-placed base before (y ∷ ys) x h e = by (is_same (file y) base) refl (λ k. placed base (before ++ own_walk y ∷ []) ys x k e) h
+placed name desc base before [] x h e = absurd h
+placed name desc base before (y ∷ ys) x h e = by (is_same (file y) base) refl (λ k. placed name desc base (before ++ own_walk y ∷ []) ys x k e) h
   where
     by : (b : Bool) → is_same (file y) base ≡ b
-        → (In ys x → Placed base ys ((before ++ own_walk y ∷ []) ++ map own_walk ys) (place_from (length (before ++ own_walk y ∷ [])) base (map own_walk ys)))
+        → (In ys x → Placed name desc base ys ((before ++ own_walk y ∷ []) ++ map own_walk ys) (place_from (length (before ++ own_walk y ∷ [])) name desc (map own_walk ys) base))
         → (y ≡ x) ⊎ In ys x
-        → Placed base (y ∷ ys) (before ++ own_walk y ∷ map own_walk ys) (cond b (Some (length before)) (place_from (length before + 1) base (map own_walk ys)))
+        → Placed name desc base (y ∷ ys) (before ++ own_walk y ∷ map own_walk ys)
+        (cond b (found_at (length before) (method_at name desc (file y))) (place_from (length before + 1) name desc (map own_walk ys) base))
     by true s next h = record { at = length before; item = y; is_in = inl refl; is_found = refl; is_there = at_end before (own_walk y) (map own_walk ys); same = s }
     by false s next (inl q) = absurd (let k = subst (λ (z : Family). is_same (file z) base ≡ true) (sym q) e in cc)
     by false s next (inr k) =
@@ -46,7 +48,7 @@ placed base before (y ∷ ys) x h e = by (is_same (file y) base) refl (λ k. pla
           at = r.at;
           item = r.item;
           is_in = inr r.is_in;
-          is_found = ap (λ (n : ℕ). place_from n base (map own_walk ys)) (sym (length-append before (own_walk y ∷ []))) ∙ r.is_found;
+          is_found = ap (λ (n : ℕ). place_from n name desc (map own_walk ys) base) (sym (length-append before (own_walk y ∷ []))) ∙ r.is_found;
           is_there = ap (λ (zs : List OwnWalk). slice_get zs r.at) (sym (append_assoc before (own_walk y ∷ []) (map own_walk ys))) ∙ r.is_there;
           same = r.same;
         }
@@ -71,16 +73,16 @@ unfolding class_of place_of own_walk
 telling missing name desc set class whole (Err fault) h = refl
 telling missing name desc set class whole (Ok base) h =
     let x = h.0 in
-    let named = whole.named x h.1 in
-    let r = placed base [] (walk class) x (in_walk class whole x h.1) (subst (λ (z : Parts). is_same (file x) z ≡ true) h.2 named) in
-    let i = index_of name desc base h.3 in
-    let is_x : r.item ≡ x = whole.alike r.item x (walk_stands class r.item r.is_in) h.1 (subst (λ (z : Parts). is_same (file r.item) z ≡ true) (sym h.2) r.same) in (
+    let r = placed name desc base [] (walk class) x (in_walk class whole x h.1) (subst (λ (z : Parts). is_same (file x) z ≡ true) h.2 (whole.named x h.1)) in
+    let is_x : r.item ≡ x = whole.alike r.item x (walk_stands class r.item r.is_in) h.1 (subst (λ (z : Parts). is_same (file r.item) z ≡ true) (sym h.2) r.same) in
+    let is_base : file r.item ≡ base = ap file is_x ∙ h.2 in
+    let i = index_of name desc base h.3 in (
       record { holder = r.at; index = i.0 },
-      ap (λ (at : Option ℕ). or_fault missing (found_at at (method_at name desc base))) r.is_found ∙ ap (λ (index : Option ℕ). or_fault missing (found_at (Some r.at) index)) i.1,
+      ap (or_fault missing) r.is_found ∙ ap (λ (z : Parts). or_fault missing (found_at r.at (method_at name desc z))) is_base ∙ ap (λ (index : Option ℕ). or_fault missing (found_at r.at index)) i.1,
       record {
         own = own_walk r.item;
         is_holder = r.is_there;
-        is_file = ap file is_x ∙ h.2;
+        is_file = is_base;
         is_index = i.1;
       },
     )

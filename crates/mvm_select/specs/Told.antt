@@ -1,5 +1,5 @@
 -- How a method is told: by the place of its class in a walk, and by its place among the class's methods; and what a resolved method names.
-use Rattle.std.specs.Prelude.{ℕ, ◌+◌, List, [], ◌∷◌, if◌then◌else◌, Option, Some, None, Result, Ok, Err, slice_get}
+use Rattle.std.specs.Prelude.{◌≡◌, ◌<◌, ℕ, ◌+◌, List, [], ◌∷◌, if◌then◌else◌, Option, Some, None, Result, Ok, Err, length, slice_get}
 use Rattle.mvm_layout.specs.Pool.{text}
 use Rattle.mvm_layout.specs.declared.parts.Member.{Member}
 use Rattle.mvm_layout.specs.declared.parts.Parts.{Parts}
@@ -17,18 +17,24 @@ use Rattle.mvm_select.specs.Selection.{selected, interface_selected, selected_fr
 
 -- ---- places
 
--- the place of the class of this file, counted on from a place
-abbrev pub place_from : ℕ → Parts → List OwnWalk → Option ℕ
-place_from at file [] = None
-place_from at file (own ∷ owns) = if is_same own.file file then Some at else place_from (at + 1) file owns
+-- a method stands there
+pub record IsPlace (walk : List OwnWalk) (found : Found) : Type 0 where
+  pub own : OwnWalk
+  pub is_holder : slice_get walk found.holder ≡ Some own
+  pub is_within : found.index < length own.file.methods
 
-abbrev pub found_at : Option ℕ → Option ℕ → Option Found
-found_at (Some holder) (Some index) = Some (record { holder = holder; index = index })
-found_at _ _ = None
+abbrev pub found_at : ℕ → Option ℕ → Option Found
+found_at holder (Some index) = Some (record { holder = holder; index = index })
+found_at holder None = None
 
--- where the method of this class is found in a walk
+-- the method of this name and descriptor of the class of this file, counted on from a place
+abbrev pub place_from : ℕ → List ℕ → List ℕ → List OwnWalk → Parts → Option Found
+place_from at name desc [] file = None
+place_from at name desc (own ∷ owns) file = if is_same own.file file then found_at at (method_at name desc own.file) else place_from (at + 1) name desc owns file
+
+-- where it is found in a walk
 unfoldable pub place_of : List ℕ → List ℕ → List OwnWalk → Parts → Option Found
-place_of name desc walk file = found_at (place_from 0 file walk) (method_at name desc file)
+place_of name desc walk file = place_from 0 name desc walk file
 
 abbrev pub or_fault : LinkFault → Option Found → Result Found LinkFault
 or_fault fault (Some found) = Ok found

@@ -1,19 +1,25 @@
 //! What the finds and the selections mean for a class with all from which it inherits, over the definitions alone. The premises on
 //! such a class are what a load keeps of it: `IsWhole` of `specs/Families.antt`.
 
-ghost use Rattle.std.specs.Prelude.{◌≡◌, ℕ, List, Some, true, false, map};
+ghost use Rattle.std.specs.Prelude.{◌≡◌, ℕ, List, Option, Some, true, false, map};
 ghost use Rattle.mvm_layout.specs.declared.parts.Parts.{Parts as PartsOf};
 ghost use Rattle.mvm_set.specs.ClassOf.{own_walk, class_of};
-ghost use Rattle.mvm_set.specs.Family.{Family, Inherits, file, walk};
+ghost use Rattle.mvm_set.specs.Family.{Family, Inherits, file, name, visited, walk};
 ghost use Rattle.mvm_set.specs.Members.{flags_at};
 ghost use Rattle.mvm_set.specs.Names.{is_interface};
+ghost use Rattle.mvm_set.specs.Once.{AreKept};
 ghost use Rattle.mvm_set.specs.declared.found.MethodAt.{MethodAt as MethodAtOf};
-ghost use Rattle.mvm_select.specs.Families.{Stands, IsWhole, IsKnown};
+ghost use Rattle.mvm_select.specs.Families.{Stands, IsOneAtMost, class_above, IsWhole, IsKnown};
 ghost use Rattle.mvm_select.specs.Meaning.{IsThere, IsOfInterface, IsInstance, IsOverriding, IsOfStart, Resolves, not_abstract, public_not_abstract, Selects, Answered};
 ghost use Rattle.mvm_select.specs.Methods.{Methods};
 ghost use Rattle.mvm_select.specs.MostSpecific.{IsConcrete, IsRuled, is_concrete, supers, ruled};
 ghost use Rattle.mvm_select.specs.Overriding.{OverridesThat, overrides};
 ghost use Rattle.mvm_select.specs.Told.{method_found, interface_method_found, Named, named, virtual_selection, interface_selection, special_selection};
+
+/// A class is whole where each of those that stand at or above it is the one that is kept under its name, and has one superclass at most.
+pub fn whole_law()
+    ensures { (kept : List ℕ → Option Family) (class : Family) → AreKept name kept (visited class) → ((one : Family) → Stands class one → IsOneAtMost (class_above one)) → IsWhole class }
+{}
 
 /// However many methods stand between one and another that it overrides (JVM Specification 5.4.5), one between is enough: the test
 /// over a class's lists passes exactly where the method overrides that of the base.

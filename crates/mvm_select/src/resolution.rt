@@ -1,4 +1,4 @@
-ghost use Rattle.std.specs.Prelude.{◌≡◌};
+ghost use Rattle.std.specs.Prelude.{◌≡◌, IfOk};
 ghost use Rattle.std.specs.List.{find};
 ghost use Rattle.std.specs.Option.{option_copied};
 ghost use Rattle.mvm_set.specs.Members.{flags_at};
@@ -7,11 +7,11 @@ ghost use Rattle.mvm_select.specs.Methods.{is_there};
 ghost use Rattle.mvm_select.specs.Names.{on_ok};
 ghost use Rattle.mvm_select.specs.MostSpecific.{declares};
 ghost use Rattle.mvm_select.specs.Resolution.{of_superinterfaces, resolved, is_of_interface, interface_resolved};
-ghost use Rattle.mvm_select.specs.Told.{method_found, interface_method_found};
+ghost use Rattle.mvm_select.specs.Told.{IsPlace, method_found, interface_method_found};
 
 use crate::methods::{is_instance, is_public, is_there};
 use crate::most_specific::{declares, ruled, supers};
-use crate::told::place_of;
+use crate::told::told;
 use mvm_base::Name;
 use mvm_set::{Class, Found, LinkFault, Own, Shared, is_interface};
 
@@ -116,10 +116,12 @@ fn interface_resolved<'a>(name: &Name, desc: &Name, class: &'a Class) -> Result<
 /// `Change` where the class is an interface, `NoMethod` where there is none.
 #[tactic(auto, unfolding(crate::specs::Told::method_found))]
 pub fn find_method(class: &Class, name: &Name, desc: &Name) -> Result<Found, LinkFault>
-    ensures { result ≡ method_found name.now desc.now class.now }
+    ensures exact { result ≡ method_found name.now desc.now class.now }
+    // A method stands there.
+    ensures places { IfOk result (λ found. IsPlace class.now.walk found) }
 {
     let own = resolved(name, desc, class)?;
-    place_of(name, desc, class.walk(), own).ok_or(LinkFault::NoMethod)
+    told(LinkFault::NoMethod, name, desc, class.walk(), own)
 }
 
 /// The method of this name and descriptor of an interface (JVM Specification 5.4.3.4): the interface's own; else a public instance
@@ -131,8 +133,10 @@ pub fn find_method(class: &Class, name: &Name, desc: &Name) -> Result<Found, Lin
 /// `Change` where the class is no interface, `NoMethod` where there is none.
 #[tactic(auto, unfolding(crate::specs::Told::interface_method_found))]
 pub fn find_interface_method(class: &Class, name: &Name, desc: &Name) -> Result<Found, LinkFault>
-    ensures { result ≡ interface_method_found name.now desc.now class.now }
+    ensures exact { result ≡ interface_method_found name.now desc.now class.now }
+    // A method stands there.
+    ensures places { IfOk result (λ found. IsPlace class.now.walk found) }
 {
     let own = interface_resolved(name, desc, class)?;
-    place_of(name, desc, class.walk(), own).ok_or(LinkFault::NoMethod)
+    told(LinkFault::NoMethod, name, desc, class.walk(), own)
 }

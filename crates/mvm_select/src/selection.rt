@@ -1,17 +1,17 @@
-ghost use Rattle.std.specs.Prelude.{◌≡◌};
+ghost use Rattle.std.specs.Prelude.{◌≡◌, IfOk};
 ghost use Rattle.std.specs.List.{find};
 ghost use Rattle.std.specs.Option.{option_copied};
 ghost use Rattle.mvm_set.specs.Members.{flags_at};
 ghost use Rattle.mvm_select.specs.Methods.{is_instance};
 ghost use Rattle.mvm_select.specs.Names.{on_ok};
 ghost use Rattle.mvm_select.specs.Selection.{or_ruled, nearest_not_private, nearest_through, nearest_that_may, nearest_direct, nearest_overriding, selected, interface_selected, is_of_start, selected_from};
-ghost use Rattle.mvm_select.specs.Told.{virtual_selection, interface_selection, special_selection};
+ghost use Rattle.mvm_select.specs.Told.{IsPlace, virtual_selection, interface_selection, special_selection};
 
 use crate::methods::{is_abstract, is_instance, is_not_private, is_public, is_public_or_protected};
 use crate::most_specific::ruled;
 use crate::names::has_class;
 use crate::overriding::{may_override, overrides_through};
-use crate::told::{named, place_of};
+use crate::told::{named, told};
 use mvm_base::Name;
 use mvm_set::{Class, Found, LinkFault, MethodAt, Own, Shared, is_interface, is_same};
 
@@ -216,12 +216,20 @@ fn selected_from<'a>(name: &Name, desc: &Name, start: &'a Class) -> Result<&'a O
 /// `MethodAt` whose places are those of no method, `Abstract`.
 #[tactic(auto, unfolding(crate::specs::Told::virtual_selection))]
 pub fn select(class: &Class, resolved: &MethodAt) -> Result<Found, LinkFault>
-    ensures { result ≡ virtual_selection class.now resolved.now }
+    ensures exact { result ≡ virtual_selection class.now resolved.now }
+    // A method stands there.
+    ensures places { IfOk result (λ found. IsPlace class.now.walk found) }
 {
     match named(resolved) {
         Some(method) => {
             let own = selected(method.name(), method.desc(), method.holder(), class)?;
-            place_of(method.name(), method.desc(), class.walk(), own).ok_or(LinkFault::Abstract)
+            told(
+                LinkFault::Abstract,
+                method.name(),
+                method.desc(),
+                class.walk(),
+                own,
+            )
         }
         None => Err(LinkFault::Abstract),
     }
@@ -235,12 +243,20 @@ pub fn select(class: &Class, resolved: &MethodAt) -> Result<Found, LinkFault>
 /// `Access` where the method of the class or of a superclass is not public; else as [`select`].
 #[tactic(auto, unfolding(crate::specs::Told::interface_selection))]
 pub fn select_interface(class: &Class, resolved: &MethodAt) -> Result<Found, LinkFault>
-    ensures { result ≡ interface_selection class.now resolved.now }
+    ensures exact { result ≡ interface_selection class.now resolved.now }
+    // A method stands there.
+    ensures places { IfOk result (λ found. IsPlace class.now.walk found) }
 {
     match named(resolved) {
         Some(method) => {
             let own = interface_selected(method.name(), method.desc(), class)?;
-            place_of(method.name(), method.desc(), class.walk(), own).ok_or(LinkFault::Abstract)
+            told(
+                LinkFault::Abstract,
+                method.name(),
+                method.desc(),
+                class.walk(),
+                own,
+            )
         }
         None => Err(LinkFault::Abstract),
     }
@@ -255,12 +271,20 @@ pub fn select_interface(class: &Class, resolved: &MethodAt) -> Result<Found, Lin
 /// As [`select`].
 #[tactic(auto, unfolding(crate::specs::Told::special_selection))]
 pub fn select_from(start: &Class, resolved: &MethodAt) -> Result<Found, LinkFault>
-    ensures { result ≡ special_selection start.now resolved.now }
+    ensures exact { result ≡ special_selection start.now resolved.now }
+    // A method stands there.
+    ensures places { IfOk result (λ found. IsPlace start.now.walk found) }
 {
     match named(resolved) {
         Some(method) => {
             let own = selected_from(method.name(), method.desc(), start)?;
-            place_of(method.name(), method.desc(), start.walk(), own).ok_or(LinkFault::Abstract)
+            told(
+                LinkFault::Abstract,
+                method.name(),
+                method.desc(),
+                start.walk(),
+                own,
+            )
         }
         None => Err(LinkFault::Abstract),
     }

@@ -1,37 +1,48 @@
-ghost use Rattle.std.specs.Prelude.{◌≡◌, ◌<◌, ◌^◌, length, Some};
-ghost use Rattle.mvm_select.specs.Told.{place_from, place_of, named_in, named};
+ghost use Rattle.std.specs.Prelude.{◌≡◌, ◌<◌, ◌^◌, length, Some, IfOk};
+ghost use Rattle.mvm_select.specs.Told.{IsPlace, or_fault, place_from, place_of, named_in, named};
 
 use mvm_base::Name;
-use mvm_classfile::{ClassFile, Member};
+use mvm_classfile::Member;
 use mvm_layout::pool::text;
-use mvm_set::{Found, MethodAt, Own, Shared, is_same};
+use mvm_set::{Found, LinkFault, MethodAt, Own, Shared, is_same};
 use std::marker::Model;
 
-/// The place of the class of this file in a walk.
-fn place_in(file: &ClassFile, walk: &[Shared<Own>]) -> Option<u32>
+/// Where the method of this name and descriptor of a class is found in a walk.
+#[tactic(auto, unfolding(crate::specs::Told::place_of))]
+fn place_of(name: &Name, desc: &Name, walk: &[Shared<Own>], own: &Own) -> Option<Found>
     requires { length walk.now < 2 ^ 32 }
-    ensures { result ≡ place_from 0 file.now walk.now }
+    ensures { result ≡ place_of name.now desc.now walk.now own.now.file }
 {
     for i in 0..walk.len() {
-        if is_same(walk[i].get().file(), file) {
-            return Some(i as u32);
+        let other = walk[i].get();
+        if is_same(other.file(), own.file()) {
+            return match other.method_at(name, desc) {
+                Some(index) => Some(Found {
+                    holder: i as u32,
+                    index,
+                }),
+                None => None,
+            };
         }
     }
     None
 }
 
-/// Where the method of this name and descriptor of a class is found in a walk.
-#[tactic(auto, unfolding(crate::specs::Told::place_of))]
-pub(crate) fn place_of(name: &Name, desc: &Name, walk: &[Shared<Own>], own: &Own) -> Option<Found>
+/// The method of this name and descriptor of a class, by its places in a walk.
+pub(crate) fn told(
+    missing: LinkFault,
+    name: &Name,
+    desc: &Name,
+    walk: &[Shared<Own>],
+    own: &Own,
+) -> Result<Found, LinkFault>
     requires { length walk.now < 2 ^ 32 }
-    ensures { result ≡ place_of name.now desc.now walk.now own.now.file }
+    ensures exact { result ≡ or_fault missing (place_of name.now desc.now walk.now own.now.file) }
+    ensures places { IfOk result (λ found. IsPlace walk.now found) }
 {
-    match place_in(own.file(), walk) {
-        Some(holder) => match own.method_at(name, desc) {
-            Some(index) => Some(Found { holder, index }),
-            None => None,
-        },
-        None => None,
+    match place_of(name, desc, walk, own) {
+        Some(found) => Ok(found),
+        None => Err(missing),
     }
 }
 
