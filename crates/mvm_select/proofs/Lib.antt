@@ -8,3 +8,4 @@ pub mod Telling
 pub mod Meaning
 pub mod Places
 pub mod Whole
+pub mod Naming

@@ -10,7 +10,7 @@ ghost use Rattle.mvm_set.specs.Names.{is_interface};
 ghost use Rattle.mvm_set.specs.Once.{AreKept};
 ghost use Rattle.mvm_set.specs.declared.found.MethodAt.{MethodAt as MethodAtOf};
 ghost use Rattle.mvm_select.specs.Families.{Stands, IsOneAtMost, class_above, IsWhole, IsKnown};
-ghost use Rattle.mvm_select.specs.Meaning.{IsThere, IsOfInterface, IsInstance, IsOverriding, IsOfStart, Resolves, not_abstract, public_not_abstract, Selects, Answered};
+ghost use Rattle.mvm_select.specs.Meaning.{IsThere, IsOfInterface, IsInstance, IsOverriding, IsOfStart, Resolves, not_abstract, public_not_abstract, Selects, IsAt, Answered};
 ghost use Rattle.mvm_select.specs.Methods.{Methods};
 ghost use Rattle.mvm_select.specs.MostSpecific.{IsConcrete, IsRuled, is_concrete, supers, ruled};
 ghost use Rattle.mvm_select.specs.Overriding.{OverridesThat, overrides};
@@ -43,6 +43,12 @@ pub fn most_law()
 pub fn resolution_law()
     ensures class { (name desc : List ℕ) (set : ℕ) (class : Family) → IsWhole class → is_interface (file class) ≡ false → Answered name desc (class_of set class) (Resolves (flags_at name desc) (IsThere (flags_at name desc)) class) (method_found name desc (class_of set class)) }
     ensures interface { (name desc : List ℕ) (set : ℕ) (class : Family) → IsWhole class → is_interface (file class) ≡ true → Answered name desc (class_of set class) (Resolves (flags_at name desc) (IsOfInterface (flags_at name desc)) class) (interface_method_found name desc (class_of set class)) }
+{}
+
+/// A resolved method at the places of a method, as a find tells them, names that method: the file that declares it, its name and its
+/// descriptor.
+pub fn named_law()
+    ensures { (method : MethodAtOf) (name desc : List ℕ) (base : PartsOf) → IsAt name desc method.class base method.found → named method ≡ Some (record { holder = base; name = name; desc = desc }) }
 {}
 
 /// What the selections answer (JVM Specification 6.5), as the rules say it of a class with all from which it inherits; and the answer's

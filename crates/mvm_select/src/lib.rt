@@ -15,6 +15,6 @@ mod resolution;
 mod selection;
 mod told;
 
-pub use laws::{most_law, overriding_law, resolution_law, select_law, whole_law};
+pub use laws::{most_law, named_law, overriding_law, resolution_law, select_law, whole_law};
 pub use resolution::{find_interface_method, find_method};
 pub use selection::{select, select_from, select_interface};
