@@ -19,7 +19,7 @@ false_of true h = absurd (h refl)
 false_of false h = refl
 
 module _ {K : Type 0} (units : K → List ℕ) where
-  abbrev key_cmp : K → K → Ordering
+  abbrev pub key_cmp : K → K → Ordering
   key_cmp one other = slice_cmp nat_cmp (units one) (units other)
 
   abbrev is_for : List ℕ → K → Bool
