@@ -1,0 +1,16 @@
+//! Files: one line of the text of a class file, read as a statement, and a statement written as a line.
+#![tactic(auto)]
+
+mod fault;
+mod instruction;
+mod operand;
+mod pool_value;
+mod statement;
+mod token;
+mod words;
+
+pub use fault::{AsmKind, LineFault};
+pub use instruction::Instruction;
+pub use operand::{Initial, KeyRow, Loadable, LongConstant, Member, Place, Reference};
+pub use pool_value::{IndexKind, MixedKind, NumberKind, PairKind, PoolValue};
+pub use statement::Statement;
