@@ -1,6 +1,6 @@
 -- A line and its tokens. Tokens stand between blanks; `;` as a token begins a comment; a quoted text has the escapes \" \\ and
 -- \uXXXX, and blanks may stand in it. A token is kept in units of UTF-16.
-use Rattle.std.specs.Prelude.{ℕ, zero, suc, ◌+◌, ◌*◌, ◌/◌, ◌%◌, ◌-◌, List, [], ◌∷◌, ◌++◌, flat_map, Bool, true, false, ◌&&◌, ◌||◌, not, nat_lt, nat_le, ◌==◌, if◌then◌else◌, bytes_eq, Option, Some, None, option_to_list}
+use Rattle.std.specs.Prelude.{ℕ, zero, suc, ◌+◌, ◌*◌, ◌/◌, ◌%◌, ◌-◌, List, [], ◌∷◌, ◌++◌, flat_map, map, Bool, true, false, ◌&&◌, ◌||◌, not, nat_lt, nat_le, ◌==◌, if◌then◌else◌, bytes_eq, Option, Some, None, option_to_list}
 use Rattle.std.specs.Char.{digit_value}
 use Rattle.std.specs.List.{list_all}
 use Rattle.mvm_statement.specs.declared.token.Token.{Token}
@@ -82,8 +82,11 @@ spelled_unit u =
     if is_printable u then u ∷ [] else
     92 ∷ 117 ∷ hex_digit (u / 4096) ∷ hex_digit (u / 256 % 16) ∷ hex_digit (u / 16 % 16) ∷ hex_digit (u % 16) ∷ [])
 
+abbrev pub spelled_word : List ℕ → List ℕ
+spelled_word word = map spelled_letter word
+
 abbrev pub spelled_token : Token → List ℕ
-spelled_token (Bare word) = flat_map (λ unit. spelled_letter unit ∷ []) word
+spelled_token (Bare word) = spelled_word word
 spelled_token (Quoted units) = 34 ∷ flat_map spelled_unit units ++ 34 ∷ []
 spelled_token Broken = 34 ∷ []
 

@@ -3,6 +3,7 @@
 
 mod fault;
 mod instruction;
+mod laws;
 mod operand;
 mod pool_value;
 mod statement;
@@ -11,6 +12,7 @@ mod words;
 
 pub use fault::{AsmKind, LineFault};
 pub use instruction::Instruction;
+pub use laws::statement_law;
 pub use operand::{Initial, KeyRow, Loadable, LongConstant, Member, Place, Reference};
 pub use pool_value::{IndexKind, MixedKind, NumberKind, PairKind, PoolValue};
 pub use statement::Statement;
