@@ -1,0 +1,10 @@
+pub mod Tests
+pub mod Labels
+pub mod Numbers
+pub mod Cuts
+pub mod Through
+pub mod Codes
+pub mod Entries
+pub mod Good
+pub mod Texts
+pub mod Whole
