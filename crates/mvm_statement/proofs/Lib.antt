@@ -6,3 +6,4 @@ pub mod LinesBack
 pub mod WordsBack
 pub mod StatementsBack
 pub mod TextsBack
+pub mod DigitsIn

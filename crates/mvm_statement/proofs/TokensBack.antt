@@ -94,13 +94,16 @@ digit_back d h = by (nat_lt d 10) refl
         let large : 10 ≤ d = ltb-false _ _ t in
         rw (t, le-ltb (55 + d) 48 (omega arith), le-ltb (55 + d) 58 (omega arith), le-ltb (55 + d) 65 (omega arith), lt-ltb (55 + d) 91 (omega arith)) (omega arith)
 
-digit_goes : (more value d : ℕ) (us cs : List ℕ) → d < 16 → tokens_from (InUnit (suc more) value us) (hex_digit d ∷ cs) ≡ tokens_from (InUnit more (16 * value + d) us) cs
-unfolding step
-digit_goes more value d us cs h = goes _ (InUnit more (16 * value + d) us) _ cs (rw (digit_back d h, lt-ltb d 16 h) refl)
+low : (value : ℕ) → value < 4096 → value % 4096 ≡ value
+low value h = omega arith
 
-last_digit_goes : (value d : ℕ) (us cs : List ℕ) → d < 16 → tokens_from (InUnit zero value us) (hex_digit d ∷ cs) ≡ tokens_from (InQuotes (us ++ (16 * value + d) ∷ [])) cs
+digit_goes : (more value d : ℕ) (us cs : List ℕ) → d < 16 → value < 4096 → tokens_from (InUnit (suc more) value us) (hex_digit d ∷ cs) ≡ tokens_from (InUnit more (16 * value + d) us) cs
 unfolding step
-last_digit_goes value d us cs h = goes _ (InQuotes (us ++ (16 * value + d) ∷ [])) _ cs (rw (digit_back d h, lt-ltb d 16 h) refl)
+digit_goes more value d us cs h l = goes (InUnit (suc more) value us) (InUnit more (16 * value + d) us) (hex_digit d) cs (rw (digit_back d h, lt-ltb d 16 h, low value l) refl)
+
+last_digit_goes : (value d : ℕ) (us cs : List ℕ) → d < 16 → value < 4096 → tokens_from (InUnit zero value us) (hex_digit d ∷ cs) ≡ tokens_from (InQuotes (us ++ (16 * value + d) ∷ [])) cs
+unfolding step
+last_digit_goes value d us cs h l = goes (InUnit zero value us) (InQuotes (us ++ (16 * value + d) ∷ [])) (hex_digit d) cs (rw (digit_back d h, lt-ltb d 16 h, low value l) refl)
 
 backslash : (us : List ℕ) → step (InQuotes us) 92 ≡ Goes (Escaped us)
 unfolding step
@@ -128,11 +131,14 @@ unit_back us u rest h = by (u == 34 || u == 92) refl (is_printable u) refl
         let n = neither _ _ a in
         rw (a, t) (goes _ _ u rest (plain us u h n.0 n.1))
     by false a false t =
-        let e : 16 * (16 * (16 * (16 * 0 + u / 4096) + u / 256 % 16) + u / 16 % 16) + u % 16 ≡ u = omega arith in
+        let first = 16 * 0 + u / 4096 in
+        let second = 16 * first + u / 256 % 16 in
+        let third = 16 * second + u / 16 % 16 in
+        let e : 16 * third + u % 16 ≡ u = omega arith in
         rw (a, t) (
-        goes _ _ 92 _ (backslash us) ∙ goes _ _ 117 _ (unit_begins us)
-        ∙ digit_goes 2 0 (u / 4096) us _ (omega arith) ∙ digit_goes 1 _ (u / 256 % 16) us _ (omega arith)
-        ∙ digit_goes 0 _ (u / 16 % 16) us _ (omega arith) ∙ last_digit_goes _ (u % 16) us rest (omega arith)
+        goes (InQuotes us) (Escaped us) 92 _ (backslash us) ∙ goes (Escaped us) (InUnit 3 0 us) 117 _ (unit_begins us)
+        ∙ digit_goes 2 0 (u / 4096) us _ (omega arith) (omega arith) ∙ digit_goes 1 first (u / 256 % 16) us _ (omega arith) (omega arith)
+        ∙ digit_goes 0 second (u / 16 % 16) us _ (omega arith) (omega arith) ∙ last_digit_goes third (u % 16) us rest (omega arith) (omega arith)
         ∙ ap (λ (x : ℕ). tokens_from (InQuotes (us ++ x ∷ [])) rest) e)
 
 units_back : (us more rest : List ℕ) → list_all (λ u. nat_lt u 65536) more ≡ true → tokens_from (InQuotes us) (flat_map spelled_unit more ++ rest) ≡ tokens_from (InQuotes (us ++ more)) rest

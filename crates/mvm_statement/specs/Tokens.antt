@@ -22,11 +22,11 @@ units_of c = if nat_lt c 65536 then c ∷ [] else (55296 + (c - 65536) / 1024) �
 abbrev pub word_end : List ℕ → Step
 word_end word = if bytes_eq word (59 ∷ []) then Ends None else Gives (Bare word)
 
--- one more digit of a unit
+-- one more digit of a unit; the last four count
 abbrev pub digit_step : Bool → ℕ → ℕ → ℕ → List ℕ → Step
 digit_step false more value digit units = Ends (Some Broken)
-digit_step true zero value digit units = Goes (InQuotes (units ++ (16 * value + digit) ∷ []))
-digit_step true (suc more) value digit units = Goes (InUnit more (16 * value + digit) units)
+digit_step true zero value digit units = Goes (InQuotes (units ++ (16 * (value % 4096) + digit) ∷ []))
+digit_step true (suc more) value digit units = Goes (InUnit more (16 * (value % 4096) + digit) units)
 
 -- what the next character makes of it
 unfoldable pub step : Mode → ℕ → Step

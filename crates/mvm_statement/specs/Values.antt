@@ -37,7 +37,7 @@ kinds =
 
 -- the kind of a word
 unfoldable pub kind_named : List ℕ → Option EntryKind
-kind_named word = find (λ kind. bytes_eq (kind_word kind) word) kinds
+kind_named word = find (λ kind. bytes_eq word (kind_word kind)) kinds
 
 abbrev pub kind_in : Token → Option EntryKind
 kind_in (Bare word) = kind_named word

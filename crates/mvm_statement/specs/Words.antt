@@ -1,7 +1,8 @@
 -- The first word of a line: a directive, a label with its colon, or the mnemonic of an instruction. The mnemonics and what stands
 -- behind each opcode are those of the one table of mvm_insn.
 use Rattle.std.specs.Prelude.{ℕ, ◌-◌, List, [], ◌∷◌, length, take, slice_index, Bool, true, false, not, ◌&&◌, ◌||◌, nat_lt, ◌==◌, if◌then◌else◌, Option, Some, None, codes, bytes_eq, option_map, option_and_then, unwrap_or, find, position}
-use Rattle.mvm_insn.specs.Opcodes.{operands_of, mnemonic_of, all_mnemonics}
+use Rattle.mvm_insn.specs.Opcodes.{operands_of, mnemonic_of}
+use Rattle.mvm_insn.specs.declared.table.TheConstants.{TABLE}
 use Rattle.mvm_insn.specs.declared.opcodes.TheConstants as jvm
 use Rattle.mvm_insn.specs.declared.table.Operands.{Operands}
 use Rattle.mvm_insn.specs.declared.table.Operands.TheVariants.{Alone, ByteNumber, ShortNumber, BytePool, ShortPool, ByteLocal, Increment, ShortJump, LongJump, Table, Lookup, Invocation, Items, Dimensions, Widened, Foreign, Absent}
@@ -31,7 +32,7 @@ directives = Version ∷ Entry ∷ Class ∷ Implements ∷ Field ∷ Method ∷
 
 -- the directive of a word
 unfoldable pub directive_of : List ℕ → Option Directive
-directive_of word = find (λ directive. bytes_eq (word_of directive) word) directives
+directive_of word = find (λ directive. bytes_eq word (word_of directive)) directives
 
 -- ---- instructions
 
@@ -68,7 +69,7 @@ shape_of op = shape_by op (operands_of op)
 
 -- the opcode of a mnemonic
 unfoldable pub opcode_of : List ℕ → Option ℕ
-opcode_of word = position (λ mnemonic. bytes_eq mnemonic word) all_mnemonics
+opcode_of word = position (λ row. bytes_eq word row.0.now) TABLE
 
 -- the mnemonic of an opcode
 abbrev pub name_of : ℕ → List ℕ

@@ -4,10 +4,14 @@
 mod fault;
 mod instruction;
 mod laws;
+mod numbers;
 mod operand;
 mod pool_value;
+mod read_operands;
+mod read_words;
 mod statement;
 mod token;
+mod tokens;
 mod words;
 
 pub use fault::{AsmKind, LineFault};
