@@ -8,3 +8,9 @@ pub mod Entries
 pub mod Good
 pub mod Texts
 pub mod Whole
+pub mod Fronts
+pub mod Opcodes
+pub mod Words
+pub mod Named
+pub mod Switches
+pub mod Mnemonics

@@ -1,11 +1,11 @@
 -- Numbers of a class file fit the fields that lines have for them, and are short enough to be written.
 use Rattle.std.proofs.Common.{◌≡◌, ℕ, suc, ◌<◌, ◌^◌, true, refl, arith}
 use Rattle.std.specs.Prelude.{ℤ, pos, negsuc, FitsSigned}
-use Rattle.std.specs.Int.{w32, w64}
+use Rattle.std.specs.Int.{w8, w16, w32, w64}
 use Rattle.std.proofs.lemmas.Bool.{lt-ltb, le-leb}
 use Rattle.mvm_classfile.specs.Kept.{IsU1, IsU2}
 use Rattle.mvm_statement.specs.Numbers.{is_short}
-use Rattle.mvm_asm.specs.Range.{is_u1, is_u2, is_u4, is_u8, is_i4, is_i8}
+use Rattle.mvm_asm.specs.Range.{is_u1, is_u2, is_u4, is_u8, is_i1, is_i2, is_i4, is_i8}
 use Rattle.mvm_asm.proofs.Tests.{and_again}
 
 pub u1_fits : (n : ℕ) → IsU1 n → is_u1 (pos n) ≡ true
@@ -46,3 +46,21 @@ i4_short (negsuc n) h = let l = h.sfits in lt-ltb (suc n) (2 ^ 64) (omega (arith
 pub i8_short : (z : ℤ) → FitsSigned w64 z → is_short z ≡ true
 i8_short (pos n) h = let l = h.sfits in lt-ltb n (2 ^ 64) (omega (arith, l))
 i8_short (negsuc n) h = let l = h.sfits in lt-ltb (suc n) (2 ^ 64) (omega (arith, l))
+
+-- ---- numbers in two's complement, of one byte and of two
+
+pub i1_fits : (z : ℤ) → FitsSigned w8 z → is_i1 z ≡ true
+i1_fits (pos n) h = let l = h.sfits in le-leb n 127 (omega (arith, l))
+i1_fits (negsuc n) h = let l = h.sfits in and_again _ _ (le-leb n 127 (omega (arith, l))) refl
+
+pub i2_fits : (z : ℤ) → FitsSigned w16 z → is_i2 z ≡ true
+i2_fits (pos n) h = let l = h.sfits in le-leb n 32767 (omega (arith, l))
+i2_fits (negsuc n) h = let l = h.sfits in and_again _ _ (le-leb n 32767 (omega (arith, l))) refl
+
+pub i1_short : (z : ℤ) → FitsSigned w8 z → is_short z ≡ true
+i1_short (pos n) h = let l = h.sfits in lt-ltb n (2 ^ 64) (omega (arith, l))
+i1_short (negsuc n) h = let l = h.sfits in lt-ltb (suc n) (2 ^ 64) (omega (arith, l))
+
+pub i2_short : (z : ℤ) → FitsSigned w16 z → is_short z ≡ true
+i2_short (pos n) h = let l = h.sfits in lt-ltb n (2 ^ 64) (omega (arith, l))
+i2_short (negsuc n) h = let l = h.sfits in lt-ltb (suc n) (2 ^ 64) (omega (arith, l))

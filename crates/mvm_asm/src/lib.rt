@@ -7,4 +7,4 @@ mod phase;
 mod piece;
 
 pub use fault::AsmFault;
-pub use laws::class_law;
+pub use laws::{class_law, mnemonic_law};
