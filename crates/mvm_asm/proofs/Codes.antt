@@ -27,7 +27,7 @@ use Rattle.mvm_asm.specs.Encoding.{i4, encoded, encoded_piece, targets_of}
 use Rattle.mvm_asm.specs.Blocks.{Labels, Block, empty_block, place_of, place_in, is_known, row_places, is_closed, fits_as, fits_offset, piece_unfit, row_unfit, unfit, row_made, piece_made, code_made}
 use Rattle.mvm_asm.specs.Assembly.{State, turn, act, with_code}
 use Rattle.mvm_asm.specs.Disassembly.{own_place, is_within, shown_at, shown, with_label, with_row, mark, piece_lines, row_line, row_targets, all_targets, is_target_of, pieces, code_lines, Decoder}
-use Rattle.mvm_asm.specs.Laws.{through}
+use Rattle.mvm_asm.proofs.Runs.{through}
 use Rattle.mvm_asm.proofs.Tests.{parts, and_again, append_none}
 use Rattle.mvm_asm.proofs.Numbers.{u2_fits}
 use Rattle.mvm_asm.proofs.Cuts.{Sound, made, Cuts, are_bytes, pieces_cut}

@@ -14,7 +14,7 @@ use Rattle.mvm_asm.specs.Range.{fits_value}
 use Rattle.mvm_asm.specs.Constants.{item_of, with_upper}
 use Rattle.mvm_asm.specs.Assembly.{State, turn, act}
 use Rattle.mvm_asm.specs.Disassembly.{value_of, entry_line, entries}
-use Rattle.mvm_asm.specs.Laws.{through}
+use Rattle.mvm_asm.proofs.Runs.{through}
 use Rattle.mvm_asm.proofs.Tests.{and_again, append_none}
 use Rattle.mvm_asm.proofs.Numbers.{u1_fits, u2_fits, u4_fits, u8_fits, i4_fits, i8_fits}
 

@@ -32,12 +32,13 @@ use Rattle.mvm_statement.specs.declared.statement.Statement.TheVariants as lines
 use Rattle.mvm_statement.proofs.NumbersBack.{number_letters}
 use Rattle.mvm_asm.specs.declared.piece.Piece.{Piece}
 use Rattle.mvm_asm.specs.declared.piece.Piece.TheVariants.{Own, OneByte}
-use Rattle.mvm_asm.specs.Disassembly.{Decoder, own_place, with_label, with_row, shown_at, shown, is_place, label, mark, piece_line, piece_lines, class_shown, row_line, value_of, entry_line, entries, pieces, code_lines, code_lines_of, field_line, method_lines, numbered, statements, all_targets, is_target_of}
+use Rattle.mvm_asm.specs.Disassembly.{Decoder, own_place, with_label, with_row, shown_at, shown, is_place, label, mark, piece_line, piece_lines, class_shown, row_line, value_of, entry_line, entries, pieces, code_lines, code_lines_of, apart, interface_line, field_line, method_lines, numbered, statements, all_targets, is_target_of}
 use Rattle.mvm_asm.proofs.Tests.{parts, and_again}
 use Rattle.mvm_asm.proofs.Numbers.{short, u1_short, u2_short, i4_short, i8_short}
 use Rattle.mvm_asm.proofs.Entries.{given}
 use Rattle.mvm_asm.proofs.Cuts.{Sound, made, Cuts}
 use Rattle.mvm_asm.proofs.Codes.{code_cut}
+use Rattle.mvm_asm.proofs.Texts.{is_good_line}
 
 abbrev pub all_good : List Statement → Bool
 all_good ss = list_all is_good ss
@@ -198,11 +199,22 @@ field_good : (pool : List Item) (m : Member) → MemberFits pool m → is_good (
 unfolding is_good
 field_good pool m h = and_again _ _ (and_again _ _ (u2_short _ h.flags) (and_again _ _ (u2_short _ h.name) (u2_short _ h.desc))) (constant_good m.constant (IfSome_then m.constant h.constant (λ n p. p.0)))
 
-fields_good : (pool : List Item) (ms : List Member) → All (MemberFits pool) ms → all_good (map field_line ms) ≡ true
-fields_good pool [] h = refl
-fields_good pool (m ∷ ms) h = and_again _ _ (field_good pool m (All-head (MemberFits pool) m ms h)) (fields_good pool ms (All-tail (MemberFits pool) m ms h))
+-- lines of which some may be empty
+abbrev pub all_good_lines : List (Option Statement) → Bool
+all_good_lines xs = list_all is_good_line xs
 
-interfaces_good : (ns : List ℕ) → All IsU2 ns → all_good (map (λ n. lines.Implements (numbered n)) ns) ≡ true
+lines_joined : (xs ys : List (Option Statement)) → all_good_lines xs ≡ true → all_good_lines ys ≡ true → all_good_lines (xs ++ ys) ≡ true
+lines_joined xs ys p q = list_all-append is_good_line xs ys ∙ and_again _ _ p q
+
+some_good : (ss : List Statement) → all_good ss ≡ true → all_good_lines (map Some ss) ≡ true
+some_good [] h = refl
+some_good (s ∷ ss) h = let a = parts (is_good s) _ h in and_again _ _ a.0 (some_good ss a.1)
+
+fields_good : (pool : List Item) (ms : List Member) → All (MemberFits pool) ms → all_good_lines (flat_map (λ m. apart (field_line m ∷ [])) ms) ≡ true
+fields_good pool [] h = refl
+fields_good pool (m ∷ ms) h = lines_joined (apart (field_line m ∷ [])) (flat_map (λ n. apart (field_line n ∷ [])) ms) (and_again _ _ (field_good pool m (All-head (MemberFits pool) m ms h)) refl) (fields_good pool ms (All-tail (MemberFits pool) m ms h))
+
+interfaces_good : (ns : List ℕ) → All IsU2 ns → all_good (map interface_line ns) ≡ true
 unfolding is_good
 interfaces_good [] h = refl
 interfaces_good (n ∷ ns) h = and_again _ _ (u2_short n (All-head IsU2 n ns h)) (interfaces_good ns (All-tail IsU2 n ns h))
@@ -211,20 +223,29 @@ interfaces_good (n ∷ ns) h = and_again _ _ (u2_short n (All-head IsU2 n ns h))
 abbrev pub MethodFits : List Item → Member → Type 0
 MethodFits pool m = MemberFits pool m × IfSome m.code (λ code. length code.bytes ≤ 65535)
 
-methods_good : (decode : Decoder) (pool : List Item) (ms : List Member) → All (MethodFits pool) ms → all_good (flat_map (method_lines decode) ms) ≡ true
+method_good : (decode : Decoder) (pool : List Item) (m : Member) → MethodFits pool m → all_good (method_lines decode m) ≡ true
 unfolding is_good
+method_good decode pool m a = and_again _ _ (and_again _ _ (u2_short _ a.0.flags) (and_again _ _ (u2_short _ a.0.name) (u2_short _ a.0.desc))) (codes_good decode m.code (IfSome_then m.code a.0.code (λ c p. p.0)) a.1)
+
+methods_good : (decode : Decoder) (pool : List Item) (ms : List Member) → All (MethodFits pool) ms → all_good_lines (flat_map (λ m. apart (method_lines decode m)) ms) ≡ true
 methods_good decode pool [] h = refl
 methods_good decode pool (m ∷ ms) h =
-    let a = All-head (MethodFits pool) m ms h in
-    let here : all_good (method_lines decode m) ≡ true = and_again _ _ (and_again _ _ (u2_short _ a.0.flags) (and_again _ _ (u2_short _ a.0.name) (u2_short _ a.0.desc))) (codes_good decode m.code (IfSome_then m.code a.0.code (λ c p. p.0)) a.1) in
-    good_joined (method_lines decode m) _ here (methods_good decode pool ms (All-tail (MethodFits pool) m ms h))
+    lines_joined (apart (method_lines decode m)) (flat_map (λ n. apart (method_lines decode n)) ms) (some_good (method_lines decode m) (method_good decode pool m (All-head (MethodFits pool) m ms h))) (methods_good decode pool ms (All-tail (MethodFits pool) m ms h))
 
-pub statements_good : (decode : Decoder) (parts : Parts) → NumbersFit parts → All (MethodFits parts.pool) parts.methods → all_good (statements decode parts) ≡ true
-unfolding statements is_good
+class_good : (flags this super : ℕ) (ns : List ℕ) → IsU2 flags → IsU2 this → IsU2 super → All IsU2 ns → all_good (lines.Class (pos flags) (numbered this) (class_shown super) ∷ map interface_line ns) ≡ true
+unfolding is_good
+class_good flags this super ns a b c d = and_again _ _ (and_again _ _ (u2_short flags a) (and_again _ _ (u2_short this b) (superclass_good super c))) (interfaces_good ns d)
+
+version_good : (minor major : ℕ) → IsU2 minor → IsU2 major → is_good (lines.Version (pos minor) (pos major)) ≡ true
+unfolding is_good
+version_good minor major a b = and_again _ _ (u2_short minor a) (u2_short major b)
+
+pub statements_good : (decode : Decoder) (parts : Parts) → NumbersFit parts → All (MethodFits parts.pool) parts.methods → all_good_lines (statements decode parts) ≡ true
+unfolding statements
 statements_good decode whole h ms =
     let few : length whole.pool < 65535 = h.count in
-    and_again _ _ (and_again _ _ (u2_short _ h.minor) (u2_short _ h.major))
-    (good_joined (entries 1 whole.pool) _ (entries_good false 1 whole.pool (omega arith) h.pool)
-    (and_again _ _ (and_again _ _ (u2_short _ h.flags) (and_again _ _ (u2_short _ h.this_class) (superclass_good whole.super_class h.super_class)))
-    (good_joined (map (λ n. lines.Implements (numbered n)) whole.interfaces) _ (interfaces_good whole.interfaces h.interfaces)
-    (good_joined (map field_line whole.fields) _ (fields_good whole.pool whole.fields h.fields) (methods_good decode whole.pool whole.methods ms)))))
+    and_again _ _ (version_good whole.minor whole.major h.minor h.major)
+    (lines_joined (map Some (entries 1 whole.pool)) _ (some_good (entries 1 whole.pool) (entries_good false 1 whole.pool (omega arith) h.pool))
+    (lines_joined (apart (lines.Class (pos whole.flags) (numbered whole.this_class) (class_shown whole.super_class) ∷ map interface_line whole.interfaces)) _
+    (some_good (lines.Class (pos whole.flags) (numbered whole.this_class) (class_shown whole.super_class) ∷ map interface_line whole.interfaces) (class_good whole.flags whole.this_class whole.super_class whole.interfaces h.flags h.this_class h.super_class h.interfaces))
+    (lines_joined (flat_map (λ m. apart (field_line m ∷ [])) whole.fields) _ (fields_good whole.pool whole.fields h.fields) (methods_good decode whole.pool whole.methods ms))))

@@ -1,4 +1,5 @@
 pub mod Tests
+pub mod Runs
 pub mod Labels
 pub mod Numbers
 pub mod Cuts

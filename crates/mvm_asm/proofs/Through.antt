@@ -32,7 +32,7 @@ use Rattle.mvm_asm.specs.Encoding.{i1, i2, i4, u4, padding, on_local, encoded, e
 use Rattle.mvm_asm.specs.Blocks.{Block, placed}
 use Rattle.mvm_asm.specs.Assembly.{State, settled, turn, act}
 use Rattle.mvm_asm.specs.Disassembly.{is_indexed, label, own_place, with_label, with_row, with_labels, mark, piece_line, piece_lines, class_shown, row_line}
-use Rattle.mvm_asm.specs.Laws.{through}
+use Rattle.mvm_asm.proofs.Runs.{through}
 use Rattle.mvm_asm.proofs.Tests.{append_none}
 use Rattle.mvm_asm.proofs.Numbers.{u1_fits, u2_fits}
 use Rattle.mvm_asm.proofs.Cuts.{Sound, made, Cuts}

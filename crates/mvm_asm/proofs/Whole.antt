@@ -22,8 +22,9 @@ use Rattle.mvm_asm.specs.Order.{next, is_whole}
 use Rattle.mvm_asm.specs.Constants.{index_where, is_utf8_of}
 use Rattle.mvm_asm.specs.Blocks.{empty_block, unfit}
 use Rattle.mvm_asm.specs.Assembly.{State, start, with_code, turn, act, run, first_fault, judged, assembled, class_of}
-use Rattle.mvm_asm.specs.Disassembly.{Decoder, numbered, class_shown, entries, code_lines_of, field_line, method_lines, statements, standard, disassembly}
-use Rattle.mvm_asm.specs.Laws.{through, PartsAgain, ClassAgain}
+use Rattle.mvm_asm.specs.Disassembly.{Decoder, numbered, class_shown, entries, code_lines_of, apart, interface_line, field_line, method_lines, statements, standard, disassembly}
+use Rattle.mvm_asm.specs.Laws.{PartsAgain, ClassAgain}
+use Rattle.mvm_asm.proofs.Runs.{through, through_all, some_through, all_joined, run_back}
 use Rattle.mvm_asm.proofs.Tests.{append_none}
 use Rattle.mvm_asm.proofs.Numbers.{u2_fits}
 use Rattle.mvm_asm.proofs.Entries.{in_pool, pool_back}
@@ -31,17 +32,6 @@ use Rattle.mvm_asm.proofs.Through.{going, joined}
 use Rattle.mvm_asm.proofs.Codes.{code_back}
 use Rattle.mvm_asm.proofs.Texts.{lines_back, all_said}
 use Rattle.mvm_asm.proofs.Good.{MethodFits, statements_good}
-
--- ---- a run without faults
-
-run_back : (line : ℕ) (ss : List Statement) (s t : State) → through line ss s ≡ Ok t → run line (map (λ x. Ok (Some x)) ss) s ≡ record { state = t; fault = None }
-run_back line [] s t h = let e : s ≡ t = cc in ap (λ (u : State). record { state = u; fault = None }) e
-run_back line (x ∷ xs) s t h = by (λ u k. run_back (line + 1) xs u t k) (turn line x s) refl h
-  where
-    by : ((u : State) → through (line + 1) xs u ≡ Ok t → run (line + 1) (map (λ x. Ok (Some x)) xs) u ≡ record { state = t; fault = None })
-        → (r : Result State AsmKind) → turn line x s ≡ r → (r >>= λ u. through (line + 1) xs u) ≡ Ok t → run line (map (λ x. Ok (Some x)) (x ∷ xs)) s ≡ record { state = t; fault = None }
-    by later (Ok u) e k = rw (run, e) (later u k)
-    by later (Err fault) e k = absurd cc
 
 -- ---- the names of attributes
 
@@ -87,12 +77,12 @@ no_fault count parts phase h = rw h refl
 
 -- ---- superinterfaces
 
-interface_turn : (line : ℕ) (whole : Parts) (ns : List ℕ) (n : ℕ) → IsU2 n → turn line (lines.Implements (numbered n)) (classed whole ns [] [] phases.Class) ≡ Ok (classed whole (ns ++ n ∷ []) [] [] phases.Class)
+interface_turn : (line : ℕ) (whole : Parts) (ns : List ℕ) (n : ℕ) → IsU2 n → turn line (interface_line n) (classed whole ns [] [] phases.Class) ≡ Ok (classed whole (ns ++ n ∷ []) [] [] phases.Class)
 unfolding turn act
 interface_turn line whole ns n h = rw (u2_fits n h) refl
 
 interfaces_back : (line : ℕ) (whole : Parts) (before ns : List ℕ) → All IsU2 ns
-    → through line (map (λ n. lines.Implements (numbered n)) ns) (classed whole before [] [] phases.Class) ≡ Ok (classed whole (before ++ ns) [] [] phases.Class)
+    → through line (map interface_line ns) (classed whole before [] [] phases.Class) ≡ Ok (classed whole (before ++ ns) [] [] phases.Class)
 interfaces_back line whole before [] h = ap (λ (xs : List ℕ). going (classed whole xs [] [] phases.Class)) (sym (append_none before))
 interfaces_back line whole before (n ∷ ns) h =
     let one = interface_turn line whole before n (All-head IsU2 n ns h) in
@@ -101,10 +91,11 @@ interfaces_back line whole before (n ∷ ns) h =
 
 -- ---- fields
 
-record Reached (line : ℕ) (ss : List Statement) (s : State) (whole : Parts) (fs ms : List Member) : Type 0 where
+-- lines behind which the class has these fields and methods, and may end
+record Reached (line : ℕ) (xs : List (Option Statement)) (s : State) (whole : Parts) (fs ms : List Member) : Type 0 where
   phase : Phase
   ends : is_whole phase ≡ true
-  there : through line ss s ≡ Ok (classed whole whole.interfaces fs ms phase)
+  there : through_all line xs s ≡ Ok (classed whole whole.interfaces fs ms phase)
 
 -- fields may stand here
 abbrev takes_field : Phase → Bool
@@ -136,20 +127,26 @@ field_turn line whole fs phase flags name desc (Some index) h a b c k = by (inde
     by None e s = absurd cc
     by (Some i) e s = rw (u2_fits flags a, u2_fits name b, u2_fits desc c, u2_fits index k.0, next_field phase (record { flags = flags; name = name; desc = desc; constant = Some index; code = None }) h, e) refl
 
+apart_through : (line : ℕ) (ss : List Statement) (s : State) → through_all line (apart ss) s ≡ through (line + 1) ss s
+apart_through line ss s = some_through (line + 1) ss s
+
 fields_reached : (line : ℕ) (whole : Parts) (before fs : List Member) (phase : Phase) → takes_field phase ≡ true → is_whole phase ≡ true → All (MemberFits whole.pool) fs → All (IsClassField whole.pool) fs
-    → Reached line (map field_line fs) (classed whole whole.interfaces before [] phase) whole (before ++ fs) []
+    → Reached line (flat_map (λ m. apart (field_line m ∷ [])) fs) (classed whole whole.interfaces before [] phase) whole (before ++ fs) []
 fields_reached line whole before [] phase h w fits kept = record { phase = phase; ends = w; there = ap (λ (xs : List Member). going (classed whole whole.interfaces xs [] phase)) (sym (append_none before)) }
 fields_reached line whole before (m ∷ fs) phase h w fits kept =
     let a = All-head (MemberFits whole.pool) m fs fits in
     let none = (All-head (IsClassField whole.pool) m fs kept).code in
     let same : record { flags = m.flags; name = m.name; desc = m.desc; constant = m.constant; code = None } ≡ m = ap (λ (c : Option Code). record { flags = m.flags; name = m.name; desc = m.desc; constant = m.constant; code = c }) (sym none) in
-    let one : turn line (field_line m) (classed whole whole.interfaces before [] phase) ≡ Ok (classed whole whole.interfaces (before ++ m ∷ []) [] phases.Fields) =
-    field_turn line whole before phase m.flags m.name m.desc m.constant h a.flags a.name a.desc a.constant ∙ ap (λ (x : Member). going (classed whole whole.interfaces (before ++ x ∷ []) [] phases.Fields)) same in
-    let more = fields_reached (line + 1) whole (before ++ m ∷ []) fs phases.Fields refl refl (All-tail (MemberFits whole.pool) m fs fits) (All-tail (IsClassField whole.pool) m fs kept) in
+    let turned : turn (line + 1) (field_line m) (classed whole whole.interfaces before [] phase) ≡ Ok (classed whole whole.interfaces (before ++ m ∷ []) [] phases.Fields) =
+    field_turn (line + 1) whole before phase m.flags m.name m.desc m.constant h a.flags a.name a.desc a.constant ∙ ap (λ (x : Member). going (classed whole whole.interfaces (before ++ x ∷ []) [] phases.Fields)) same in
+    let one : through_all line (apart (field_line m ∷ [])) (classed whole whole.interfaces before [] phase) ≡ Ok (classed whole whole.interfaces (before ++ m ∷ []) [] phases.Fields) =
+    apart_through line (field_line m ∷ []) (classed whole whole.interfaces before [] phase) ∙ rw turned refl in
+    let more = fields_reached (line + length (apart (field_line m ∷ []))) whole (before ++ m ∷ []) fs phases.Fields refl refl (All-tail (MemberFits whole.pool) m fs fits) (All-tail (IsClassField whole.pool) m fs kept) in
     record {
       phase = more.phase;
       ends = more.ends;
-      there = rw one (more.there ∙ ap (λ (xs : List Member). going (classed whole whole.interfaces xs [] more.phase)) (append_assoc before (m ∷ []) fs));
+      there = all_joined line (apart (field_line m ∷ [])) (flat_map (λ m. apart (field_line m ∷ [])) fs) _ (classed whole whole.interfaces (before ++ m ∷ []) [] phases.Fields) _ one more.there
+          ∙ ap (λ (xs : List Member). going (classed whole whole.interfaces xs [] more.phase)) (append_assoc before (m ∷ []) fs);
     }
 
 -- ---- methods
@@ -176,8 +173,14 @@ with_code_last [] m code = refl
 with_code_last (n ∷ []) m code = refl
 with_code_last (n ∷ (o ∷ ms)) m code = ap (λ (xs : List Member). n ∷ xs) (with_code_last (o ∷ ms) m code)
 
+-- behind a method's head, by its statements alone
+record Coded (line : ℕ) (ss : List Statement) (s : State) (whole : Parts) (ms : List Member) : Type 0 where
+  phase : Phase
+  ends : is_whole phase ≡ true
+  there : through line ss s ≡ Ok (classed whole whole.interfaces whole.fields ms phase)
+
 code_reached : (decode : Decoder) (line : ℕ) (whole : Parts) (ms : List Member) (flags name desc : ℕ) (o : Option Code) → IfSome o (λ code. CodeFits code × HasText whole.pool (codes "Code")) → IfSome o (λ code. length code.bytes ≤ 65535)
-    → Reached line (code_lines_of decode o) (classed whole whole.interfaces whole.fields (ms ++ headed flags name desc ∷ []) phases.Method) whole whole.fields (ms ++ record { flags = flags; name = name; desc = desc; constant = None; code = o } ∷ [])
+    → Coded line (code_lines_of decode o) (classed whole whole.interfaces whole.fields (ms ++ headed flags name desc ∷ []) phases.Method) whole (ms ++ record { flags = flags; name = name; desc = desc; constant = None; code = o } ∷ [])
 code_reached decode line whole ms flags name desc None h l = record { phase = phases.Method; ends = refl; there = refl }
 code_reached decode line whole ms flags name desc (Some code) h l =
     let all = ms ++ headed flags name desc ∷ [] in
@@ -189,23 +192,23 @@ code_reached decode line whole ms flags name desc (Some code) h l =
     }
 
 methods_reached : (decode : Decoder) (line : ℕ) (whole : Parts) (before ms : List Member) (phase : Phase) → is_whole phase ≡ true → All (MethodFits whole.pool) ms → All (IsClassMethod whole.pool) ms
-    → Reached line (flat_map (method_lines decode) ms) (classed whole whole.interfaces whole.fields before phase) whole whole.fields (before ++ ms)
+    → Reached line (flat_map (λ m. apart (method_lines decode m)) ms) (classed whole whole.interfaces whole.fields before phase) whole whole.fields (before ++ ms)
 methods_reached decode line whole before [] phase h fits kept = record { phase = phase; ends = h; there = ap (λ (xs : List Member). going (classed whole whole.interfaces whole.fields xs phase)) (sym (append_none before)) }
 methods_reached decode line whole before (m ∷ ms) phase h fits kept =
     let a = All-head (MethodFits whole.pool) m ms fits in
     let none = (All-head (IsClassMethod whole.pool) m ms kept).constant in
     let same : record { flags = m.flags; name = m.name; desc = m.desc; constant = None; code = m.code } ≡ m = ap (λ (c : Option ℕ). record { flags = m.flags; name = m.name; desc = m.desc; constant = c; code = m.code }) (sym none) in
-    let first = method_turn line whole before phase m.flags m.name m.desc h a.0.flags a.0.name a.0.desc in
-    let code = code_reached decode (line + 1) whole before m.flags m.name m.desc m.code a.0.code a.1 in
-    let one : through line (method_lines decode m) (classed whole whole.interfaces whole.fields before phase) ≡ Ok (classed whole whole.interfaces whole.fields (before ++ m ∷ []) code.phase) =
+    let first = method_turn (line + 1) whole before phase m.flags m.name m.desc h a.0.flags a.0.name a.0.desc in
+    let code = code_reached decode ((line + 1) + 1) whole before m.flags m.name m.desc m.code a.0.code a.1 in
+    let there : through (line + 1) (method_lines decode m) (classed whole whole.interfaces whole.fields before phase) ≡ Ok (classed whole whole.interfaces whole.fields (before ++ m ∷ []) code.phase) =
     rw first (code.there ∙ ap (λ (x : Member). going (classed whole whole.interfaces whole.fields (before ++ x ∷ []) code.phase)) same) in
-    let more = methods_reached decode (line + length (method_lines decode m)) whole (before ++ m ∷ []) ms code.phase code.ends (All-tail (MethodFits whole.pool) m ms fits) (All-tail (IsClassMethod whole.pool) m ms kept) in
-    let e : (before ++ m ∷ []) ++ ms ≡ before ++ m ∷ ms = append_assoc before (m ∷ []) ms in
+    let one = apart_through line (method_lines decode m) (classed whole whole.interfaces whole.fields before phase) ∙ there in
+    let more = methods_reached decode (line + length (apart (method_lines decode m))) whole (before ++ m ∷ []) ms code.phase code.ends (All-tail (MethodFits whole.pool) m ms fits) (All-tail (IsClassMethod whole.pool) m ms kept) in
     record {
       phase = more.phase;
       ends = more.ends;
-      there = joined line (method_lines decode m) (flat_map (method_lines decode) ms) _ (classed whole whole.interfaces whole.fields (before ++ m ∷ []) code.phase) _ one more.there
-          ∙ ap (λ (xs : List Member). going (classed whole whole.interfaces whole.fields xs more.phase)) e;
+      there = all_joined line (apart (method_lines decode m)) (flat_map (λ m. apart (method_lines decode m)) ms) _ (classed whole whole.interfaces whole.fields (before ++ m ∷ []) code.phase) _ one more.there
+          ∙ ap (λ (xs : List Member). going (classed whole whole.interfaces whole.fields xs more.phase)) (append_assoc before (m ∷ []) ms);
     }
 
 -- ---- the whole
@@ -229,26 +232,25 @@ whole_reached : (decode : Decoder) (whole : Parts) → NumbersFit whole → All 
 unfolding statements
 whole_reached decode whole h fs mf ms =
     let s = versioned whole.minor whole.major in
-    let ns = map (λ n. lines.Implements (numbered n)) whole.interfaces in
+    let pool = map Some (entries 1 whole.pool) in
+    let ns = map interface_line whole.interfaces in
+    let head = lines.Class (pos whole.flags) (numbered whole.this_class) (class_shown whole.super_class) ∷ ns in
+    let fields = flat_map (λ m. apart (field_line m ∷ [])) whole.fields in
+    let methods = flat_map (λ m. apart (method_lines decode m)) whole.methods in
     let one = version_turn 1 whole.minor whole.major h.minor h.major in
-    let two = pool_back 2 whole.pool s h.count h.pool in
-    let l = 2 + length (entries 1 whole.pool) in
-    let three = class_turn l whole.minor whole.major whole.flags whole.this_class whole.super_class whole.pool whole.interfaces whole.fields whole.methods h.flags h.this_class h.super_class in
-    let four = interfaces_back (l + 1) whole [] whole.interfaces h.interfaces in
-    let l2 = (l + 1) + length ns in
+    let two : through_all 2 pool (in_pool s []) ≡ Ok (in_pool s whole.pool) = some_through 2 (entries 1 whole.pool) (in_pool s []) ∙ pool_back 2 whole.pool s h.count h.pool in
+    let l = 2 + length pool in
+    let three = class_turn (l + 1) whole.minor whole.major whole.flags whole.this_class whole.super_class whole.pool whole.interfaces whole.fields whole.methods h.flags h.this_class h.super_class in
+    let four = interfaces_back ((l + 1) + 1) whole [] whole.interfaces h.interfaces in
+    let class_there : through (l + 1) head (in_pool s whole.pool) ≡ Ok (classed whole whole.interfaces [] [] phases.Class) = rw three four in
+    let class_lines : through_all l (apart head) (in_pool s whole.pool) ≡ Ok (classed whole whole.interfaces [] [] phases.Class) = apart_through l head (in_pool s whole.pool) ∙ class_there in
+    let l2 = l + length (apart head) in
     let five = fields_reached l2 whole [] whole.fields phases.Class refl refl h.fields fs in
-    let l3 = l2 + length (map field_line whole.fields) in
-    let six = methods_reached decode l3 whole [] whole.methods five.phase five.ends mf ms in
-    let members = map field_line whole.fields ++ flat_map (method_lines decode) whole.methods in
-    let seven = joined l2 (map field_line whole.fields) (flat_map (method_lines decode) whole.methods) (classed whole whole.interfaces [] [] phases.Class) (classed whole whole.interfaces whole.fields [] five.phase) _ five.there six.there in
-    let eight = joined (l + 1) ns members (classed whole [] [] [] phases.Class) (classed whole whole.interfaces [] [] phases.Class) _ four seven in
-    let lines = lines.Class (pos whole.flags) (numbered whole.this_class) (class_shown whole.super_class) ∷ (ns ++ members) in
-    let last : through l lines (in_pool s whole.pool) ≡ Ok (classed whole whole.interfaces whole.fields whole.methods six.phase) = rw three eight in
-    record {
-      phase = six.phase;
-      ends = six.ends;
-      there = rw one (joined 2 (entries 1 whole.pool) lines (in_pool s []) (in_pool s whole.pool) _ two last);
-    }
+    let six = methods_reached decode (l2 + length fields) whole [] whole.methods five.phase five.ends mf ms in
+    let seven = all_joined l2 fields methods (classed whole whole.interfaces [] [] phases.Class) (classed whole whole.interfaces whole.fields [] five.phase) _ five.there six.there in
+    let eight = all_joined l (apart head) (fields ++ methods) (in_pool s whole.pool) (classed whole whole.interfaces [] [] phases.Class) _ class_lines seven in
+    let nine = all_joined 2 pool (apart head ++ (fields ++ methods)) (in_pool s []) (in_pool s whole.pool) _ two eight in
+    record { phase = six.phase; ends = six.ends; there = rw one nine }
 
 few_bytes : (o : Option Code) → IfSome o (λ code. (1 ≤ length code.bytes) × (length code.bytes ≤ 65535)) → IfSome o (λ code. length code.bytes ≤ 65535)
 few_bytes None h = tt
@@ -264,8 +266,10 @@ assembled_again whole h fs ms =
     let mf = methods_fit whole h ms in
     let r = whole_reached standard whole h fs mf ms in
     let good = statements_good standard whole h mf in
-    let lines = lines_back (lines.Version (pos whole.minor) (pos whole.major)) _ good in
-    let said = all_said (statements standard whole) good in
+    let rest = map Some (entries 1 whole.pool) ++ (apart (lines.Class (pos whole.flags) (numbered whole.this_class) (class_shown whole.super_class) ∷ map interface_line whole.interfaces)
+      ++ (flat_map (λ m. apart (field_line m ∷ [])) whole.fields ++ flat_map (λ m. apart (method_lines standard m)) whole.methods)) in
+    let lines = lines_back whole.pool (Some (lines.Version (pos whole.minor) (pos whole.major))) rest good in
+    let said = all_said whole.pool (statements standard whole) good in
     let ran = run_back 1 (statements standard whole) start _ r.there in
     rw (lines, said, ran) (no_fault _ whole r.phase r.ends)
 

@@ -17,7 +17,7 @@ use Rattle.mvm_insn.specs.declared.insn.Insn.{Insn}
 use Rattle.mvm_insn.specs.declared.insn.Insn.TheVariants as insn
 use Rattle.mvm_insn.specs.declared.opcodes.TheConstants as jvm
 use Rattle.mvm_insn.specs.declared.switch_rows.SwitchRow.{SwitchRow}
-use Rattle.mvm_statement.specs.Statements.{is_good, text_of}
+use Rattle.mvm_statement.specs.Statements.{is_good}
 use Rattle.mvm_statement.specs.declared.operand.Place.{Place}
 use Rattle.mvm_statement.specs.declared.operand.Place.TheVariants.{At, Label}
 use Rattle.mvm_statement.specs.declared.operand.KeyRow.{KeyRow}
@@ -42,6 +42,7 @@ use Rattle.mvm_asm.specs.declared.piece.Piece.TheVariants.{Own, OneByte}
 use Rattle.mvm_asm.specs.Range.{fits}
 use Rattle.mvm_asm.specs.Encoding.{encoded, targets_of}
 use Rattle.mvm_asm.specs.Blocks.{place_of, fits_offset}
+use Rattle.mvm_asm.specs.LaidOut.{laid_out}
 
 -- ---- an instruction as a line
 
@@ -267,22 +268,25 @@ abbrev pub code_lines_of : Decoder → Option Code → List Statement
 code_lines_of decode None = []
 code_lines_of decode (Some code) = code_lines decode code
 
+abbrev pub interface_line : ℕ → Statement
+interface_line n = lines.Implements (numbered n)
+
 abbrev pub field_line : Member → Statement
 field_line m = lines.Field (pos m.flags) (numbered m.name) (numbered m.desc) (option_map (λ n. initials.Indexed (pos n)) m.constant)
 
 abbrev pub method_lines : Decoder → Member → List Statement
 method_lines decode m = lines.Method (pos m.flags) (numbered m.name) (numbered m.desc) ∷ code_lines_of decode m.code
 
-unfoldable pub statements : Decoder → Parts → List Statement
-statements decode parts =
-    lines.Version (pos parts.minor) (pos parts.major) ∷ (entries 1 parts.pool
-    ++ lines.Class (pos parts.flags) (numbered parts.this_class) (class_shown parts.super_class) ∷ (map (λ n. lines.Implements (numbered n)) parts.interfaces
-    ++ (map field_line parts.fields ++ flat_map (method_lines decode) parts.methods)))
+-- behind an empty line, which has no statement
+abbrev pub apart : List Statement → List (Option Statement)
+apart ss = None ∷ map Some ss
 
--- each on a line of its own
-abbrev pub written : List Statement → List ℕ
-written ss = flat_map (λ s. text_of s ++ 10 ∷ []) ss
+unfoldable pub statements : Decoder → Parts → List (Option Statement)
+statements decode parts =
+    Some (lines.Version (pos parts.minor) (pos parts.major)) ∷ (map Some (entries 1 parts.pool)
+    ++ (apart (lines.Class (pos parts.flags) (numbered parts.this_class) (class_shown parts.super_class) ∷ map interface_line parts.interfaces)
+    ++ (flat_map (λ m. apart (field_line m ∷ [])) parts.fields ++ flat_map (λ m. apart (method_lines decode m)) parts.methods)))
 
 -- the text of a class file
 unfoldable pub disassembly : Parts → List ℕ
-disassembly parts = written (statements standard parts)
+disassembly parts = laid_out parts.pool (statements standard parts)

@@ -14,11 +14,6 @@ use Rattle.mvm_asm.specs.Assembly.{State, turn, assembled, class_of}
 use Rattle.mvm_asm.specs.Encoding.{padding}
 use Rattle.mvm_asm.specs.Disassembly.{gives, line_of, disassembly}
 
--- statements, one after the other, of which the first stands on this line
-abbrev pub through : ℕ → List Statement → State → Result State AsmKind
-through line [] s = Ok s
-through line (x ∷ xs) s = turn line x s >>= λ t. through (line + 1) xs t
-
 -- the text of a class file is assembled to its parts, and they are those of the class file of the text
 abbrev pub PartsAgain : Type 0
 PartsAgain = (parts : Parts) → IsClassFile parts → assembled (disassembly parts) ≡ Ok parts

@@ -4,5 +4,6 @@ pub mod Constants
 pub mod Encoding
 pub mod Blocks
 pub mod Assembly
+pub mod LaidOut
 pub mod Disassembly
 pub mod Laws
