@@ -7,3 +7,5 @@ pub mod WordsBack
 pub mod StatementsBack
 pub mod TextsBack
 pub mod DigitsIn
+pub mod Defaults
+pub mod Utf8

@@ -5,7 +5,7 @@ use Rattle.std.specs.Str.{is_utf8}
 use Rattle.std.specs.List.{list_all}
 use Rattle.std.proofs.lemmas.Bool.{ltb-true, lt-ltb, ne_eqb, eqb-true, leb-true, le-leb}
 use Rattle.std.proofs.lemmas.Str.{chars-IsAscii, IsUtf8-from_ascii, is_utf8-from_IsUtf8}
-use Rattle.mvm_statement.specs.Tokens.{is_letter, is_word, is_writable, is_printable, hex_digit, spelled_unit, spelled_token, spelled_tokens, tokens, tokens_from}
+use Rattle.mvm_statement.specs.Tokens.{is_letter, is_word, is_writable, is_printable, hex_digit, spelled_unit, spelled_token, behind_blank, spelled_tokens, tokens, tokens_from}
 use Rattle.mvm_statement.specs.Statements.{tokens_say, spelled, is_good, line_says, text_of}
 use Rattle.mvm_statement.specs.declared.token.Token.{Token}
 use Rattle.mvm_statement.specs.declared.token.Token.TheVariants.{Bare, Quoted, Broken}
@@ -66,10 +66,13 @@ token_plain (Bare w) h = rw (word_same w h) (word_plain w h)
 token_plain (Quoted us) h = plain_joined (flat_map spelled_unit us) (34 ∷ []) (units_plain us h) refl
 token_plain Broken h = absurd cc
 
+rest_plain : (ts : List Token) → list_all is_writable ts ≡ true → list_all is_printable (flat_map behind_blank ts) ≡ true
+rest_plain [] h = refl
+rest_plain (t ∷ ts) h = let a = both (is_writable t) _ h in plain_joined (behind_blank t) (flat_map behind_blank ts) (and_again _ _ refl (token_plain t a.0)) (rest_plain ts a.1)
+
 line_plain : (ts : List Token) → list_all is_writable ts ≡ true → list_all is_printable (spelled_tokens ts) ≡ true
 line_plain [] h = refl
-line_plain (t ∷ []) h = token_plain t (both (is_writable t) _ h).0
-line_plain (t ∷ (next ∷ more)) h = let a = both (is_writable t) _ h in plain_joined (spelled_token t) (32 ∷ spelled_tokens (next ∷ more)) (token_plain t a.0) (line_plain (next ∷ more) a.1)
+line_plain (t ∷ ts) h = let a = both (is_writable t) _ h in plain_joined (spelled_token t) (flat_map behind_blank ts) (token_plain t a.0) (rest_plain ts a.1)
 
 pub plain_ascii : (text : List ℕ) → list_all is_printable text ≡ true → IsAscii text
 plain_ascii [] h i = search rules

@@ -4,7 +4,7 @@ use Rattle.std.specs.Prelude.{◌&&◌, ◌||◌, ◌==◌, nat_lt, ◌/◌, ◌
 use Rattle.std.specs.List.{list_all}
 use Rattle.std.specs.Char.{digit_value}
 use Rattle.std.proofs.lemmas.Bool.{ltb-false, le-ltb, lt-ltb, ltb-true, ne_eqb}
-use Rattle.mvm_statement.specs.Tokens.{tokens_from, step, word_end, tokens, is_blank, units_of, is_letter, is_word, is_writable, is_printable, hex_digit, spelled_letter, spelled_word, spelled_unit, spelled_token, spelled_tokens}
+use Rattle.mvm_statement.specs.Tokens.{tokens_from, step, word_end, tokens, is_blank, units_of, is_letter, is_word, is_writable, is_printable, hex_digit, spelled_letter, spelled_word, spelled_unit, spelled_token, behind_blank, spelled_tokens}
 use Rattle.mvm_statement.specs.declared.token.Token.{Token}
 use Rattle.mvm_statement.specs.declared.token.Token.TheVariants.{Bare, Quoted, Broken}
 use Rattle.mvm_statement.specs.declared.token.Mode.{Mode}
@@ -188,17 +188,19 @@ last_is (Bare w) h = rw (word_ends w h) refl
 last_is (Quoted us) h = refl
 last_is Broken h = absurd cc
 
+rest_back : (t : Token) (ts : List Token) → is_writable t ≡ true → list_all is_writable ts ≡ true → tokens_from (behind t) (flat_map behind_blank ts) ≡ t ∷ ts
+rest_back t [] h k = last_is t h
+rest_back t (next ∷ more) h k =
+    let a = both (is_writable next) _ k in
+    gives (behind t) t 32 (spelled_token next ++ flat_map behind_blank more) (blank_step t h)
+    ∙ ap (λ (ts : List Token). t ∷ ts) (token_back next (flat_map behind_blank more) a.0 ∙ rest_back next more a.0 a.1)
+
 pub tokens_back : (ts : List Token) → list_all is_writable ts ≡ true → tokens (spelled_tokens ts) ≡ ts
 unfolding tokens_from
 tokens_back [] h = refl
-tokens_back (t ∷ []) h =
-    let a = both _ _ h in
-    ap (λ (x : List ℕ). tokens_from Between x) (sym (append_none (spelled_token t))) ∙ token_back t [] a.0 ∙ last_is t a.0
-tokens_back (t ∷ (next ∷ more)) h =
-    let a = both _ _ h in
-    token_back t (32 ∷ spelled_tokens (next ∷ more)) a.0
-    ∙ gives (behind t) t 32 _ (blank_step t a.0)
-    ∙ ap (λ (ts : List Token). t ∷ ts) (tokens_back (next ∷ more) a.1)
+tokens_back (t ∷ ts) h =
+    let a = both (is_writable t) _ h in
+    token_back t (flat_map behind_blank ts) a.0 ∙ rest_back t ts a.0 a.1
 
 -- ---- a line with blanks in front and a comment behind
 
@@ -221,21 +223,22 @@ comment_ends remark = refl
 pub comment_back : (remark : List ℕ) → tokens_from Between (59 ∷ 32 ∷ remark) ≡ []
 comment_back remark = goes Between (InWord (59 ∷ [])) 59 (32 ∷ remark) comment_begins ∙ comment_ends remark
 
+remark_back : (t : Token) (ts : List Token) (remark : List ℕ) → is_writable t ≡ true → list_all is_writable ts ≡ true → tokens_from (behind t) (flat_map behind_blank ts ++ 32 ∷ 59 ∷ 32 ∷ remark) ≡ t ∷ ts
+remark_back t [] remark h k = gives (behind t) t 32 (59 ∷ 32 ∷ remark) (blank_step t h) ∙ ap (λ (ts : List Token). t ∷ ts) (comment_back remark)
+remark_back t (next ∷ more) remark h k =
+    let a = both (is_writable next) _ k in
+    let rest = flat_map behind_blank more ++ 32 ∷ 59 ∷ 32 ∷ remark in
+    let e : (spelled_token next ++ flat_map behind_blank more) ++ 32 ∷ 59 ∷ 32 ∷ remark ≡ spelled_token next ++ rest = append_assoc (spelled_token next) (flat_map behind_blank more) (32 ∷ 59 ∷ 32 ∷ remark) in
+    gives (behind t) t 32 ((spelled_token next ++ flat_map behind_blank more) ++ 32 ∷ 59 ∷ 32 ∷ remark) (blank_step t h)
+    ∙ ap (λ (ts : List Token). t ∷ ts) (ap (tokens_from Between) e ∙ token_back next rest a.0 ∙ remark_back next more remark a.0 a.1)
+
 remarked : (ts : List Token) (remark : List ℕ) → list_all is_writable ts ≡ true → tokens_from Between (spelled_tokens ts ++ 32 ∷ 59 ∷ 32 ∷ remark) ≡ ts
 remarked [] remark h = goes Between Between 32 (59 ∷ 32 ∷ remark) blank_between ∙ comment_back remark
-remarked (t ∷ []) remark h =
+remarked (t ∷ ts) remark h =
     let a = both (is_writable t) _ h in
-    token_back t (32 ∷ 59 ∷ 32 ∷ remark) a.0
-    ∙ gives (behind t) t 32 (59 ∷ 32 ∷ remark) (blank_step t a.0)
-    ∙ ap (λ (ts : List Token). t ∷ ts) (comment_back remark)
-remarked (t ∷ (next ∷ more)) remark h =
-    let a = both (is_writable t) _ h in
-    let rest = spelled_tokens (next ∷ more) ++ 32 ∷ 59 ∷ 32 ∷ remark in
-    let e : (spelled_token t ++ 32 ∷ spelled_tokens (next ∷ more)) ++ 32 ∷ 59 ∷ 32 ∷ remark ≡ spelled_token t ++ 32 ∷ rest = append_assoc (spelled_token t) (32 ∷ spelled_tokens (next ∷ more)) (32 ∷ 59 ∷ 32 ∷ remark) in
-    ap (λ (x : List ℕ). tokens_from Between x) e
-    ∙ token_back t (32 ∷ rest) a.0
-    ∙ gives (behind t) t 32 rest (blank_step t a.0)
-    ∙ ap (λ (ts : List Token). t ∷ ts) (remarked (next ∷ more) remark a.1)
+    let rest = flat_map behind_blank ts ++ 32 ∷ 59 ∷ 32 ∷ remark in
+    let e : (spelled_token t ++ flat_map behind_blank ts) ++ 32 ∷ 59 ∷ 32 ∷ remark ≡ spelled_token t ++ rest = append_assoc (spelled_token t) (flat_map behind_blank ts) (32 ∷ 59 ∷ 32 ∷ remark) in
+    ap (tokens_from Between) e ∙ token_back t rest a.0 ∙ remark_back t ts remark a.0 a.1
 
 pub framed_back : (depth : ℕ) (ts : List Token) (remark : List ℕ) → list_all is_writable ts ≡ true → tokens (replicate depth 32 ++ (spelled_tokens ts ++ 32 ∷ 59 ∷ 32 ∷ remark)) ≡ ts
 framed_back depth ts remark h = indented depth (spelled_tokens ts ++ 32 ∷ 59 ∷ 32 ∷ remark) ∙ remarked ts remark h

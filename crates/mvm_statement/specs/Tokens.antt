@@ -90,11 +90,13 @@ spelled_token (Bare word) = spelled_word word
 spelled_token (Quoted units) = 34 ∷ flat_map spelled_unit units ++ 34 ∷ []
 spelled_token Broken = 34 ∷ []
 
+abbrev pub behind_blank : Token → List ℕ
+behind_blank t = 32 ∷ spelled_token t
+
 -- with a blank between each two
 abbrev pub spelled_tokens : List Token → List ℕ
 spelled_tokens [] = []
-spelled_tokens (t ∷ []) = spelled_token t
-spelled_tokens (t ∷ (next ∷ more)) = spelled_token t ++ 32 ∷ spelled_tokens (next ∷ more)
+spelled_tokens (t ∷ ts) = spelled_token t ++ flat_map behind_blank ts
 
 -- a word that can be written: it has letters alone, one at least, and begins neither as a quoted text nor as a comment
 abbrev pub is_word : List ℕ → Bool
