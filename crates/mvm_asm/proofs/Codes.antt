@@ -28,7 +28,7 @@ use Rattle.mvm_asm.specs.Blocks.{Labels, Block, empty_block, place_of, place_in,
 use Rattle.mvm_asm.specs.Assembly.{State, turn, act, with_code}
 use Rattle.mvm_asm.specs.Disassembly.{own_place, is_within, shown_at, shown, with_label, with_row, mark, piece_lines, row_line, row_targets, all_targets, is_target_of, pieces, code_lines, Decoder}
 use Rattle.mvm_asm.proofs.Runs.{through}
-use Rattle.mvm_asm.proofs.Tests.{parts, and_again, append_none}
+use Rattle.mvm_asm.proofs.Tests.{parts, and_again}
 use Rattle.mvm_asm.proofs.Numbers.{u2_fits}
 use Rattle.mvm_asm.proofs.Cuts.{Sound, made, Cuts, are_bytes, pieces_cut}
 use Rattle.mvm_asm.proofs.Labels.{row_of, below, below_more, below_marks, found_some, marks, marked, marks_kept, has}
@@ -260,7 +260,7 @@ made_of s code = record s { phase = phases.Methods; block = empty_block 0 0; par
 end_turn : (line : ℕ) (s : State) (b : Block) (qs : List ℕ) (code : Code) → is_closed (record b { labels = map row_of qs }) ≡ true → unfit (record b { labels = map row_of qs }) ≡ []
     → code_made (record b { labels = map row_of qs }) ≡ code → turn line lines.End (coded s b qs) ≡ Ok (made_of s code)
 unfolding turn act
-end_turn line s b qs code closed fitting is = rw (closed, fitting, is, append_none s.unfit) refl
+end_turn line s b qs code closed fitting is = rw (closed, fitting, is) refl
 
 code_through : (line : ℕ) (code : Code) (s : State) (ps : List (ℕ × Piece)) → Cuts 0 code.bytes ps → CodeFits code → length code.bytes ≤ 65535 → is_some (index_where (is_utf8_of (codes "Code")) 1 s.parts.pool) ≡ true
     → through line (lines.Code (pos code.max_stack) (pos code.max_locals) ∷ (flat_map (piece_lines (is_target_of (all_targets ps code.rows)) (shown (map (λ p. p.0) ps ++ length code.bytes ∷ []))) ps

@@ -15,3 +15,4 @@ pub mod Words
 pub mod Named
 pub mod Switches
 pub mod Mnemonics
+pub mod Magnitude

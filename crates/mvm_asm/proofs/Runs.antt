@@ -1,5 +1,5 @@
 -- Lines that are gone through without a fault.
-use Rattle.std.proofs.Common.{◌≡◌, ℕ, zero, suc, ◌+◌, List, [], ◌∷◌, ◌++◌, length, map, Option, Some, None, Result, Ok, Err, refl, sym, ap, subst, ◌∙◌, arith}
+use Rattle.std.proofs.Common.{◌≡◌, ℕ, ◌+◌, List, [], ◌∷◌, ◌++◌, length, map, Option, Some, None, Result, Ok, Err, refl, ap, subst, ◌∙◌, arith}
 use Rattle.mvm_base.specs.Answers.{◌>>=◌}
 use Rattle.mvm_statement.specs.declared.fault.AsmKind.{AsmKind}
 use Rattle.mvm_statement.specs.declared.statement.Statement.{Statement}

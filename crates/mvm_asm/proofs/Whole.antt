@@ -1,8 +1,7 @@
 -- The text of a class file is assembled to its parts.
-use Rattle.std.proofs.Common.{◌≡◌, ℕ, zero, suc, ◌+◌, ◌≤◌, Bool, true, false, List, [], ◌∷◌, ◌++◌, length, map, Option, Some, None, Result, Ok, Err, refl, sym, ap, ◌∙◌, append_assoc}
+use Rattle.std.proofs.Common.{◌≡◌, ℕ, zero, suc, ◌+◌, ◌≤◌, Bool, true, false, List, [], ◌∷◌, ◌++◌, length, map, Option, Some, None, Ok, refl, sym, ap, ◌∙◌, append_assoc}
 use Rattle.std.specs.Prelude.{All, pos, flat_map, codes, is_some, IfSome, slice_get, cond}
 use Rattle.std.proofs.lemmas.List.Elements.{All-head, All-tail}
-use Rattle.mvm_base.specs.Answers.{◌>>=◌}
 use Rattle.mvm_layout.specs.Pool.{text, text_of, is_text}
 use Rattle.mvm_layout.specs.declared.parts.Code.{Code}
 use Rattle.mvm_layout.specs.declared.parts.Item.{Item}
@@ -13,7 +12,6 @@ use Rattle.mvm_classfile.specs.Kept.{IsU2, CodeFits, HasText, MemberFits, Number
 use Rattle.mvm_classfile.proofs.Fitting.{numbers_fit}
 use Rattle.mvm_classfile.proofs.Kept.{fields_kept, methods_kept}
 use Rattle.mvm_classfile.proofs.Made.{rebuilt_is}
-use Rattle.mvm_statement.specs.declared.fault.AsmKind.{AsmKind}
 use Rattle.mvm_statement.specs.declared.statement.Statement.{Statement}
 use Rattle.mvm_statement.specs.declared.statement.Statement.TheVariants as lines
 use Rattle.mvm_asm.specs.declared.phase.Phase.{Phase}
@@ -21,14 +19,14 @@ use Rattle.mvm_asm.specs.declared.phase.Phase.TheVariants as phases
 use Rattle.mvm_asm.specs.Order.{next, is_whole}
 use Rattle.mvm_asm.specs.Constants.{index_where, is_utf8_of}
 use Rattle.mvm_asm.specs.Blocks.{empty_block, unfit}
-use Rattle.mvm_asm.specs.Assembly.{State, start, with_code, turn, act, run, first_fault, judged, assembled, class_of}
+use Rattle.mvm_asm.specs.Assembly.{State, start, with_code, turn, act, first_fault, judged, assembled, class_of}
 use Rattle.mvm_asm.specs.Disassembly.{Decoder, numbered, class_shown, entries, code_lines_of, apart, interface_line, field_line, method_lines, statements, standard, disassembly}
 use Rattle.mvm_asm.specs.Laws.{PartsAgain, ClassAgain}
 use Rattle.mvm_asm.proofs.Runs.{through, through_all, some_through, all_joined, run_back}
 use Rattle.mvm_asm.proofs.Tests.{append_none}
 use Rattle.mvm_asm.proofs.Numbers.{u2_fits}
 use Rattle.mvm_asm.proofs.Entries.{in_pool, pool_back}
-use Rattle.mvm_asm.proofs.Through.{going, joined}
+use Rattle.mvm_asm.proofs.Through.{going}
 use Rattle.mvm_asm.proofs.Codes.{code_back}
 use Rattle.mvm_asm.proofs.Texts.{lines_back, all_said}
 use Rattle.mvm_asm.proofs.Good.{MethodFits, statements_good}
@@ -267,7 +265,7 @@ assembled_again whole h fs ms =
     let r = whole_reached standard whole h fs mf ms in
     let good = statements_good standard whole h mf in
     let rest = map Some (entries 1 whole.pool) ++ (apart (lines.Class (pos whole.flags) (numbered whole.this_class) (class_shown whole.super_class) ∷ map interface_line whole.interfaces)
-      ++ (flat_map (λ m. apart (field_line m ∷ [])) whole.fields ++ flat_map (λ m. apart (method_lines standard m)) whole.methods)) in
+    ++ (flat_map (λ m. apart (field_line m ∷ [])) whole.fields ++ flat_map (λ m. apart (method_lines standard m)) whole.methods)) in
     let lines = lines_back whole.pool (Some (lines.Version (pos whole.minor) (pos whole.major))) rest good in
     let said = all_said whole.pool (statements standard whole) good in
     let ran = run_back 1 (statements standard whole) start _ r.there in

@@ -85,6 +85,11 @@ with_code (m ∷ (n ∷ ms)) code = m ∷ with_code (n ∷ ms) code
 abbrev pub member : ℕ → ℕ → ℕ → Option ℕ → Member
 member flags name desc constant = record { flags = flags; name = name; desc = desc; constant = constant; code = None }
 
+-- behind a code, with the lines of it on which an offset or a place does not fit: where there is one, nothing is made of the code
+abbrev pub ended : List ℕ → State → State
+ended [] s = record s { parts = record s.parts { methods = with_code s.parts.methods (code_made s.block) }; block = empty_block 0 0 }
+ended (line ∷ lines) s = record s { unfit = s.unfit ++ line ∷ lines; block = empty_block 0 0 }
+
 -- what a line does where it may stand and its numbers fit
 unfoldable pub act : ℕ → Statement → State → Result State AsmKind
 act line (Version minor major) s = Ok (record s { parts = record s.parts { minor = magnitude minor; major = magnitude major } })
@@ -116,10 +121,7 @@ act line (Byte n) s = Ok (record s { block = placed line (OneByte (magnitude n))
 act line (Catch from to handler class) s =
     class_or_none class s.parts.pool >>= λ x.
     Ok (record (with_pool s x.1) { block = record s.block { rows = s.block.rows ++ record { line = line; start = from; end = to; handler = handler; class = x.0 } ∷ [] } })
-act line End s =
-    if is_closed s.block
-    then Ok (record s { parts = record s.parts { methods = with_code s.parts.methods (code_made s.block) }; unfit = s.unfit ++ unfit s.block; block = empty_block 0 0 })
-    else Err kinds.Label
+act line End s = if is_closed s.block then Ok (ended (unfit s.block) s) else Err kinds.Label
 
 abbrev pub entered : Option Phase → State → Result State AsmKind
 entered (Some phase) s = Ok (record s { phase = phase })

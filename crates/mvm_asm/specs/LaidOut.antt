@@ -1,6 +1,6 @@
 -- How the lines of a class file are laid out: those of a code behind blanks, and behind what names an entry of the constant pool a comment,
 -- which says what the entry is.
-use Rattle.std.specs.Prelude.{ℕ, ◌+◌, ℤ, pos, List, [], ◌∷◌, ◌++◌, flat_map, map, take, replicate, if◌then◌else◌, Option, Some, None, option_map, unwrap_or}
+use Rattle.std.specs.Prelude.{ℕ, List, [], ◌∷◌, ◌++◌, flat_map, map, take, replicate, if◌then◌else◌, Option, Some, None, unwrap_or}
 use Rattle.std.specs.Fmt.{signed_decimal}
 use Rattle.mvm_layout.specs.Pool.{entry, text, class_name, name_and_type}
 use Rattle.mvm_layout.specs.declared.parts.Item.{Item}
@@ -9,7 +9,6 @@ use Rattle.mvm_statement.specs.Numbers.{magnitude}
 use Rattle.mvm_statement.specs.Tokens.{is_printable}
 use Rattle.mvm_statement.specs.Statements.{text_of}
 use Rattle.mvm_statement.specs.declared.operand.Reference.{Reference}
-use Rattle.mvm_statement.specs.declared.operand.Reference.TheVariants as references
 use Rattle.mvm_statement.specs.declared.instruction.Instruction.{Instruction as Line}
 use Rattle.mvm_statement.specs.declared.instruction.Instruction.TheVariants.{Load, LoadLong, OfClass, OfMember, Invocation, Dimensions}
 use Rattle.mvm_statement.specs.declared.statement.Statement.{Statement}

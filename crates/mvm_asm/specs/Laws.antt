@@ -1,6 +1,5 @@
 -- What holds of every class file and its text.
-use Rattle.std.specs.Prelude.{◌≡◌, ◌<◌, ℕ, ◌+◌, ◌-◌, ◌%◌, ◌^◌, List, [], ◌∷◌, length, take, drop, Bool, true, ◌==◌, bytes_eq, Result, Ok}
-use Rattle.mvm_base.specs.Answers.{◌>>=◌}
+use Rattle.std.specs.Prelude.{◌≡◌, ◌<◌, ℕ, ◌-◌, ◌%◌, ◌^◌, List, length, take, drop, Bool, true, ◌==◌, bytes_eq, Ok}
 use Rattle.mvm_base.specs.Bytes.{AreBytes}
 use Rattle.mvm_layout.specs.declared.parts.Parts.{Parts}
 use Rattle.mvm_insn.specs.Insns.{insn as read}
@@ -8,9 +7,7 @@ use Rattle.mvm_insn.specs.declared.insn.At.{At}
 use Rattle.mvm_insn.specs.declared.insn.Insn.{Insn}
 use Rattle.mvm_insn.specs.declared.insn.Insn.TheVariants as insn
 use Rattle.mvm_classfile.specs.Reading.{IsClassFile}
-use Rattle.mvm_statement.specs.declared.fault.AsmKind.{AsmKind}
-use Rattle.mvm_statement.specs.declared.statement.Statement.{Statement}
-use Rattle.mvm_asm.specs.Assembly.{State, turn, assembled, class_of}
+use Rattle.mvm_asm.specs.Assembly.{assembled, class_of}
 use Rattle.mvm_asm.specs.Encoding.{padding}
 use Rattle.mvm_asm.specs.Disassembly.{gives, line_of, disassembly}
 

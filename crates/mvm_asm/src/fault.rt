@@ -1,5 +1,6 @@
 use mvm_layout::ClassFault;
 use mvm_statement::AsmKind;
+use std::alloc::AllocError;
 
 /// Why a text is assembled to no class file.
 #[derive(Clone, Copy, Debug, PartialEq, Eq)]
@@ -10,4 +11,24 @@ pub enum AsmFault {
     Refused(ClassFault),
     /// Memory was wanted and was not to be had.
     OutOfMemory,
+}
+
+/// Why a line can't be taken.
+#[derive(Clone, Copy, Debug, PartialEq, Eq)]
+pub(crate) enum StepFault {
+    /// What is wrong with it.
+    Kind(AsmKind),
+    /// Memory was wanted and was not to be had.
+    OutOfMemory,
+}
+
+impl From<AllocError> for StepFault {
+    ghost use Rattle.std.specs.Prelude.{◌≡◌};
+    ghost use Rattle.mvm_asm.specs.declared.fault.StepFault.TheVariants.{OutOfMemory};
+
+    ghost from_gives = { λ _ e. e ≡ OutOfMemory };
+
+    fn from(_refused: AllocError) -> StepFault {
+        StepFault::OutOfMemory
+    }
 }
