@@ -17,6 +17,8 @@ mod statement;
 mod token;
 mod tokens;
 mod words;
+mod write_operands;
+mod write_tokens;
 
 pub use fault::{AsmKind, LineFault};
 pub use instruction::Instruction;
