@@ -1,7 +1,11 @@
 -- Words and operands, as they are written one behind the other.
-use Rattle.std.proofs.Common.{◌≡◌, ℕ, List, [], ◌∷◌, ◌++◌, map, refl, sym, ap, ◌∙◌, append_assoc}
+use Rattle.std.proofs.Common.{◌≡◌, ℕ, Bool, true, false, List, [], ◌∷◌, ◌++◌, map, refl, sym, ap, ◌∙◌, append_assoc, append-nil}
 use Rattle.std.specs.List.{flat_map}
-use Rattle.mvm_statement.specs.Tokens.{spelled_letter, spelled_word, behind_blank}
+use Rattle.mvm_insn.specs.declared.opcodes.TheConstants as jvm
+use Rattle.mvm_statement.specs.Tokens.{spelled_letter, spelled_word, behind_blank, spelled_tokens}
+use Rattle.mvm_statement.specs.Words.{name_of}
+use Rattle.mvm_statement.specs.Instructions.{spelled_op}
+use Rattle.mvm_statement.specs.declared.token.Token.TheVariants.{Bare}
 use Rattle.mvm_statement.specs.Operands.{spelled_name}
 use Rattle.mvm_statement.specs.declared.token.Token.{Token}
 
@@ -19,3 +23,7 @@ label_spelled name = words_joined name (58 ∷ [])
 pub tokens_joined : (a b : List Token) → flat_map behind_blank (a ++ b) ≡ flat_map behind_blank a ++ flat_map behind_blank b
 tokens_joined [] b = refl
 tokens_joined (t ∷ ts) b = ap (λ (x : List ℕ). behind_blank t ++ x) (tokens_joined ts b) ∙ sym (append_assoc (behind_blank t) (flat_map behind_blank ts) (flat_map behind_blank b))
+
+pub op_joined : (wide : Bool) (op : ℕ) (ts : List Token) → spelled_tokens (spelled_op wide op ts) ≡ spelled_tokens (spelled_op wide op []) ++ flat_map behind_blank ts
+op_joined true op ts = rw append-nil (sym (append_assoc (spelled_word (name_of jvm.WIDE)) (behind_blank (Bare (name_of op))) (flat_map behind_blank ts)))
+op_joined false op ts = rw append-nil refl

@@ -17,6 +17,7 @@ mod statement;
 mod token;
 mod tokens;
 mod words;
+mod write_instruction;
 mod write_operands;
 mod write_tokens;
 
