@@ -1,8 +1,8 @@
 -- Instructions: what stands behind a mnemonic (JVM Specification 6.5).
-use Rattle.std.specs.Prelude.{ℕ, ℤ, List, [], ◌∷◌, Bool, true, false, ◌&&◌, not, Option, Some, None, option_map, option_and_then}
+use Rattle.std.specs.Prelude.{ℕ, ℤ, List, [], ◌∷◌, Bool, true, false, ◌&&◌, Option, Some, None, option_map, option_and_then}
 use Rattle.mvm_insn.specs.declared.opcodes.TheConstants as jvm
-use Rattle.mvm_statement.specs.Operands.{Kind, number, reference, member, loadable, long_constant, place}
-use Rattle.mvm_statement.specs.Lines.{Operands, nothing, one, two, targets, rows, both_of}
+use Rattle.mvm_statement.specs.Operands.{number, reference, member, loadable, long_constant, place}
+use Rattle.mvm_statement.specs.Lines.{nothing, one, two, targets, rows, both_of}
 use Rattle.mvm_statement.specs.Words.{shape_of, opcode_of, name_of}
 use Rattle.mvm_statement.specs.declared.token.Token.{Token}
 use Rattle.mvm_statement.specs.declared.token.Token.TheVariants.{Bare}

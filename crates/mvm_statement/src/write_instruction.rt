@@ -120,7 +120,9 @@ fn write_operands(out: &mut Line, line: &Instruction) -> Result<(), AllocError>
             ..
         } => write_table(out, *low, targets, otherwise),
         Instruction::Lookup {
-            rows, otherwise, ..
+            rows,
+            otherwise,
+            ..
         } => write_lookup(out, rows, otherwise),
         Instruction::Invocation { member, count, .. } => {
             write_member(out, member)?;

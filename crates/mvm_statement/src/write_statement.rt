@@ -82,11 +82,7 @@ fn write_numbers(
 }
 
 /// Adds a reference, or the word that stands for none.
-fn write_optional(
-    out: &mut Line,
-    word: &str,
-    class: &Option<Reference>,
-) -> Result<(), AllocError>
+fn write_optional(out: &mut Line, word: &str, class: &Option<Reference>) -> Result<(), AllocError>
     ensures ok { OnOk result (out.new ≡ out.old ++ behind_blank ((or_word word.now reference).spelled class.now)) }
 {
     match class {
