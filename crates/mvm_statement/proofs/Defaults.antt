@@ -1,6 +1,6 @@
 -- The end of a switch: `default PLACE`.
-use Rattle.std.proofs.Common.{◌≡◌, ℕ, suc, ◌+◌, ◌<◌, ◌≤◌, Bool, true, false, List, [], ◌∷◌, ◌++◌, length, take, drop, Option, Some, None, refl, sym, ap, ◌∙◌, arith}
-use Rattle.std.specs.Prelude.{option_map, if◌then◌else◌}
+use Rattle.std.proofs.Common.{◌≡◌, ◌<◌, true, false, List, [], ◌∷◌, ◌++◌, length, Some, None, refl, ap, ◌∙◌, arith}
+use Rattle.std.specs.Prelude.{option_map}
 use Rattle.mvm_statement.specs.Operands.{is_bare}
 use Rattle.mvm_statement.specs.Lines.{before_default, default_word, just_two}
 use Rattle.mvm_statement.specs.declared.token.Token.{Token}

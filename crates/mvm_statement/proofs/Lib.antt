@@ -9,3 +9,4 @@ pub mod TextsBack
 pub mod DigitsIn
 pub mod Defaults
 pub mod Utf8
+pub mod Written

@@ -1,10 +1,10 @@
 -- The operands of a line, read again as they are written: once for each way of putting them together.
-use Rattle.std.proofs.Common.{◌≡◌, ℕ, true, false, List, [], ◌∷◌, ◌++◌, Option, Some, None, refl, ap, ◌∙◌}
-use Rattle.std.specs.Prelude.{◌&&◌, option_map, option_and_then}
+use Rattle.std.proofs.Common.{◌≡◌, true, List, [], ◌∷◌, ◌++◌, Some, refl, ap, ◌∙◌}
+use Rattle.std.specs.Prelude.{option_map}
 use Rattle.std.specs.List.{list_all}
 use Rattle.mvm_statement.specs.Tokens.{is_writable}
 use Rattle.mvm_statement.specs.Operands.{Kind, number, place, is_bare}
-use Rattle.mvm_statement.specs.Lines.{Operands, nothing, one, two, three, four, both_of, targets, rows, before_default, places_in, rows_in, spelled_places, spelled_rows, spelled_default, is_good_row, key_row, default_word}
+use Rattle.mvm_statement.specs.Lines.{Operands, nothing, one, two, three, four, targets, rows, before_default, places_in, rows_in, spelled_places, spelled_rows, spelled_default, is_good_row, default_word}
 use Rattle.mvm_statement.specs.declared.token.Token.{Token}
 use Rattle.mvm_statement.specs.declared.operand.Place.{Place}
 use Rattle.mvm_statement.specs.declared.operand.KeyRow.{KeyRow}

@@ -1,11 +1,11 @@
 -- Numbers, read again as they are written.
 use Rattle.std.proofs.Common.{◌≡◌, ℕ, suc, ◌-◌, ◌<◌, ◌≤◌, ◌^◌, min, Bool, true, false, cond, List, [], ◌∷◌, length, Some, refl, ap, ◌∙◌, arith}
-use Rattle.std.specs.Prelude.{◌==◌, nat_lt, ℤ, pos, negsuc, decimal}
+use Rattle.std.specs.Prelude.{nat_lt, ℤ, pos, negsuc, decimal}
 use Rattle.std.specs.Fmt.{signed_decimal}
 use Rattle.std.specs.Char.{digit_value}
 use Rattle.std.specs.List.{list_all}
 use Rattle.std.specs.Str.Parse.{digits_value, AllDigits}
-use Rattle.std.proofs.lemmas.Bool.{ltb-false, lt-ltb, ltb-true, eqb-true}
+use Rattle.std.proofs.lemmas.Bool.{ltb-false, lt-ltb, ltb-true}
 use Rattle.std.proofs.lemmas.Fmt.{decimal_is_IsNumeral}
 use Rattle.mvm_statement.specs.Tokens.{is_letter, is_word}
 use Rattle.mvm_statement.specs.Numbers.{digits_in, numeral, is_short, too_large}

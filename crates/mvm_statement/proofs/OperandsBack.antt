@@ -1,14 +1,12 @@
 -- Operands, read again as they are written: once for each kind.
-use Rattle.std.proofs.Common.{◌≡◌, ℕ, zero, suc, ◌+◌, ◌<◌, ◌≤◌, Bool, true, false, not, List, [], ◌∷◌, ◌++◌, length, take, drop, Option, Some, None, refl, sym, ap, ◌∙◌, arith, add-one}
-use Rattle.std.specs.Prelude.{◌&&◌, ◌==◌, ℤ, nat_lt, bytes_eq, is_none, option_map, option_and_then, position}
+use Rattle.std.proofs.Common.{◌≡◌, ℕ, suc, ◌<◌, true, false, not, List, [], ◌∷◌, ◌++◌, length, take, drop, Option, Some, None, refl, ap, ◌∙◌, arith, add-one}
+use Rattle.std.specs.Prelude.{◌==◌, ℤ, bytes_eq, is_none, option_map}
 use Rattle.std.specs.Fmt.{signed_decimal}
-use Rattle.std.specs.List.{list_all, position_or_len, prefix_len}
+use Rattle.std.specs.List.{position_or_len}
 use Rattle.std.proofs.lemmas.Bool.{lt-ltb}
-use Rattle.mvm_statement.specs.Tokens.{is_letter, is_word, is_writable}
+use Rattle.mvm_statement.specs.Tokens.{is_word, is_writable}
 use Rattle.mvm_statement.specs.Numbers.{numeral, is_short}
 use Rattle.mvm_statement.specs.Operands.{Kind, number, quoted, index, reference, member, loadable, long_constant, initial, place, or_word, begins_with, behind_mark, by_number, is_name, cut, has_no, spelled_name, named_member, hash, at_sign, integer_or_class, is_bare, reference_in, spelled_reference, is_good_reference, member_in, spelled_member, is_good_member, loadable_in, spelled_loadable, is_good_loadable, long_in, spelled_long, is_good_long, initial_in, spelled_initial, is_good_initial, place_in, spelled_place, is_good_place, spelled_or, is_good_or}
-use Rattle.mvm_statement.specs.declared.token.Token.{Token}
-use Rattle.mvm_statement.specs.declared.token.Token.TheVariants.{Bare, Quoted, Broken}
 use Rattle.mvm_statement.specs.declared.operand.Reference.{Reference}
 use Rattle.mvm_statement.specs.declared.operand.Reference.TheVariants as references
 use Rattle.mvm_statement.specs.declared.operand.Member.{Member}
@@ -21,7 +19,7 @@ use Rattle.mvm_statement.specs.declared.operand.Initial.{Initial}
 use Rattle.mvm_statement.specs.declared.operand.Initial.TheVariants as initials
 use Rattle.mvm_statement.specs.declared.operand.Place.{Place}
 use Rattle.mvm_statement.specs.declared.operand.Place.TheVariants as places
-use Rattle.mvm_statement.proofs.Tests.{both, and_again, is_not}
+use Rattle.mvm_statement.proofs.Tests.{both, is_not}
 use Rattle.mvm_statement.proofs.NumbersBack.{numeral_back, number_letters, number_word, number_unmarked}
 
 -- a value that can be written is read again

@@ -1,16 +1,16 @@
 -- What the tokens of a written statement say is the statement.
-use Rattle.std.proofs.Common.{◌≡◌, ℕ, Bool, true, false, not, List, [], ◌∷◌, ◌++◌, Option, Some, None, Ok, refl, sym, ap, ◌∙◌}
-use Rattle.std.specs.Prelude.{◌&&◌, ℤ, option_map, option_and_then, codes}
+use Rattle.std.proofs.Common.{◌≡◌, ℕ, true, false, List, [], ◌∷◌, ◌++◌, Option, Some, None, Ok, refl, ap, ◌∙◌}
+use Rattle.std.specs.Prelude.{ℤ, option_map, codes}
 use Rattle.std.specs.List.{list_all}
 use Rattle.mvm_insn.specs.Opcodes.{operands_of}
 use Rattle.mvm_insn.specs.declared.opcodes.TheConstants as jvm
 use Rattle.mvm_statement.specs.Tokens.{is_writable, is_word}
-use Rattle.mvm_statement.specs.Operands.{Kind, number, quoted, index, reference, member, loadable, long_constant, initial, place}
-use Rattle.mvm_statement.specs.Lines.{Operands, nothing, one, two, three, four, both_of, targets, rows}
-use Rattle.mvm_statement.specs.Words.{word_of, shape_of, opcode_of, name_of, is_unknown, head_of}
+use Rattle.mvm_statement.specs.Operands.{number, quoted, index, reference, member, loadable, long_constant, place}
+use Rattle.mvm_statement.specs.Lines.{Operands, nothing, one, two, three, four, targets, rows}
+use Rattle.mvm_statement.specs.Words.{shape_of, name_of, is_unknown}
 use Rattle.mvm_statement.specs.Values.{kind_word, kind_named, kind_in, kind_of, value_in, spelled_value, is_good_value}
-use Rattle.mvm_statement.specs.Instructions.{instruction_in, spelled_instruction, is_good_instruction, has_shape, has_row, table, table_in, widened, wide_in, spelled_op}
-use Rattle.mvm_statement.specs.Statements.{directed, statement_of, tokens_say, spelled, is_good, led, super_class, caught, constant_in, spelled_constant, is_good_constant, entry_in, field_in}
+use Rattle.mvm_statement.specs.Instructions.{instruction_in, spelled_instruction, is_good_instruction, has_shape, has_row, table_in, widened}
+use Rattle.mvm_statement.specs.Statements.{directed, tokens_say, spelled, is_good, led, super_class, caught, constant_in, spelled_constant, is_good_constant, entry_in}
 use Rattle.mvm_statement.specs.declared.token.Token.{Token}
 use Rattle.mvm_statement.specs.declared.token.Token.TheVariants.{Bare}
 use Rattle.mvm_statement.specs.declared.operand.Initial.{Initial}

@@ -1,9 +1,9 @@
 -- A written line has printable ASCII characters alone, and what it says is the statement that was written.
-use Rattle.std.proofs.Common.{◌≡◌, ℕ, zero, suc, ◌+◌, ◌<◌, ◌≤◌, Bool, true, false, cond, not, List, [], ◌∷◌, ◌++◌, replicate, Some, None, Ok, refl, sym, ap, ◌∙◌, arith, rules, append_assoc}
-use Rattle.std.specs.Prelude.{◌&&◌, ◌==◌, nat_lt, nat_le, ◌/◌, ◌%◌, flat_map, IsAscii, chars}
+use Rattle.std.proofs.Common.{◌≡◌, ℕ, zero, suc, ◌+◌, ◌<◌, ◌≤◌, Bool, true, false, cond, not, List, [], ◌∷◌, ◌++◌, replicate, Some, None, Ok, refl, ◌∙◌, arith, rules}
+use Rattle.std.specs.Prelude.{◌==◌, nat_lt, nat_le, ◌/◌, ◌%◌, flat_map, IsAscii}
 use Rattle.std.specs.Str.{is_utf8}
 use Rattle.std.specs.List.{list_all}
-use Rattle.std.proofs.lemmas.Bool.{ltb-true, lt-ltb, ne_eqb, eqb-true, leb-true, le-leb}
+use Rattle.std.proofs.lemmas.Bool.{ltb-true, eqb-true, leb-true, le-leb}
 use Rattle.std.proofs.lemmas.Str.{chars-IsAscii, IsUtf8-from_ascii, is_utf8-from_IsUtf8}
 use Rattle.mvm_statement.specs.Tokens.{is_letter, is_word, is_writable, is_printable, hex_digit, spelled_unit, spelled_token, behind_blank, spelled_tokens, tokens, tokens_from}
 use Rattle.mvm_statement.specs.Statements.{tokens_say, spelled, is_good, line_says, text_of}

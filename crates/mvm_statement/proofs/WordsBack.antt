@@ -1,21 +1,17 @@
 -- First words: each directive, each mnemonic and each label is found as itself.
-use Rattle.std.proofs.Common.{◌≡◌, ℕ, zero, suc, ◌+◌, ◌-◌, ◌<◌, ◌≤◌, Bool, true, false, List, [], ◌∷◌, ◌++◌, length, take, Option, Some, None, refl, sym, ap, subst, ◌∙◌, arith, length-append}
-use Rattle.std.specs.Prelude.{◌&&◌, ◌==◌, not, nat_lt, unwrap_or, option_map, option_and_then, slice_get, slice_index, map}
+use Rattle.std.proofs.Common.{◌≡◌, ℕ, zero, suc, ◌+◌, ◌-◌, ◌<◌, Bool, true, false, List, [], ◌∷◌, ◌++◌, length, take, Option, Some, None, refl, ap, subst, ◌∙◌, arith, length-append}
+use Rattle.std.specs.Prelude.{◌&&◌, ◌==◌, not, unwrap_or, option_map, slice_get, slice_index, map}
 use Rattle.std.specs.List.{list_all}
-use Rattle.std.proofs.lemmas.Bool.{eqb-true, lt-ltb, ltb-true}
+use Rattle.std.proofs.lemmas.Bool.{eqb-true, lt-ltb}
 use Rattle.mvm_insn.specs.Opcodes.{operands_of, mnemonic_of, all_mnemonics}
 use Rattle.mvm_insn.specs.declared.table.TheConstants.{TABLE}
 use Rattle.mvm_statement.specs.Tokens.{is_word}
-use Rattle.mvm_statement.specs.Words.{word_of, directive_of, head_of, label_of, opcode_of, name_of, shape_of, is_unknown, instruction_head, or_else}
+use Rattle.mvm_statement.specs.Words.{word_of, directive_of, head_of, label_of, opcode_of, name_of, shape_of, is_unknown}
 use Rattle.mvm_statement.specs.declared.words.Directive.{Directive}
 use Rattle.mvm_statement.specs.declared.words.Directive.TheVariants.{Version, Entry, Class, Implements, Field, Method, Code, Byte, Catch, End}
-use Rattle.mvm_statement.specs.declared.words.Head.{Head}
 use Rattle.mvm_statement.specs.declared.words.Head.TheVariants as heads
 use Rattle.std.proofs.lemmas.Option.{slice_get-map}
-use Rattle.mvm_insn.specs.declared.table.Operands.{Operands}
-use Rattle.mvm_insn.specs.declared.table.Operands.TheVariants.{Absent}
 use Rattle.mvm_statement.specs.Instructions.{same_shape, has_shape}
-use Rattle.mvm_statement.specs.Words.{shape_by}
 use Rattle.mvm_statement.specs.declared.words.Shape.{Shape}
 use Rattle.mvm_statement.specs.declared.words.Shape.TheVariants as shapes
 use Rattle.mvm_statement.specs.Tokens.{is_letter}

@@ -1,12 +1,13 @@
 -- Instructions: what stands behind a mnemonic (JVM Specification 6.5).
-use Rattle.std.specs.Prelude.{ℕ, ℤ, List, [], ◌∷◌, Bool, true, false, ◌&&◌, not, Option, Some, None, option_map, option_and_then}
+use Rattle.std.specs.Prelude.{ℕ, ℤ, List, [], ◌∷◌, Bool, true, false, ◌&&◌, Option, Some, None, option_map, option_and_then}
 use Rattle.mvm_insn.specs.declared.opcodes.TheConstants as jvm
-use Rattle.mvm_statement.specs.Operands.{Kind, number, reference, member, loadable, long_constant, place}
-use Rattle.mvm_statement.specs.Lines.{Operands, nothing, one, two, targets, rows, both_of}
+use Rattle.mvm_statement.specs.Operands.{number, reference, member, loadable, long_constant, place}
+use Rattle.mvm_statement.specs.Lines.{nothing, one, two, targets, rows, both_of}
 use Rattle.mvm_statement.specs.Words.{shape_of, opcode_of, name_of}
 use Rattle.mvm_statement.specs.declared.token.Token.{Token}
 use Rattle.mvm_statement.specs.declared.token.Token.TheVariants.{Bare}
 use Rattle.mvm_statement.specs.declared.operand.Place.{Place}
+use Rattle.mvm_statement.specs.declared.operand.KeyRow.{KeyRow}
 use Rattle.mvm_statement.specs.declared.words.Shape.{Shape}
 use Rattle.mvm_statement.specs.declared.words.Shape.TheVariants as shapes
 use Rattle.mvm_statement.specs.declared.instruction.Instruction.{Instruction}
@@ -62,21 +63,52 @@ abbrev pub spelled_op : Bool → ℕ → List Token → List Token
 spelled_op true op ts = Bare (name_of jvm.WIDE) ∷ Bare (name_of op) ∷ ts
 spelled_op false op ts = Bare (name_of op) ∷ ts
 
+abbrev pub spelled_table : ℤ → List Place → Place → List Token
+spelled_table low ts otherwise = number.spelled low ∷ targets.spelled (ts, otherwise)
+
+abbrev pub spelled_lookup : List KeyRow → Place → List Token
+spelled_lookup rs otherwise = rows.spelled (rs, otherwise)
+
+abbrev pub op_of : Instruction → ℕ
+op_of (Plain op) = op
+op_of (Push op n) = op
+op_of (Load op x) = op
+op_of (LoadLong op x) = op
+op_of (OfClass op class) = op
+op_of (OfMember op x) = op
+op_of (Local op n wide) = op
+op_of (Increment op n by wide) = op
+op_of (Jump op target) = op
+op_of (Table op low ts otherwise) = op
+op_of (Lookup op rs otherwise) = op
+op_of (Invocation op x count) = op
+op_of (Items op kind) = op
+op_of (Dimensions op class count) = op
+
+-- behind `wide`
+abbrev pub is_wide : Instruction → Bool
+is_wide (Local op n wide) = wide
+is_wide (Increment op n by wide) = wide
+is_wide _ = false
+
+abbrev pub spelled_operands : Instruction → List Token
+spelled_operands (Plain op) = []
+spelled_operands (Push op n) = (one number).spelled n
+spelled_operands (Load op x) = (one loadable).spelled x
+spelled_operands (LoadLong op x) = (one long_constant).spelled x
+spelled_operands (OfClass op class) = (one reference).spelled class
+spelled_operands (OfMember op x) = (one member).spelled x
+spelled_operands (Local op n wide) = (one number).spelled n
+spelled_operands (Increment op n by wide) = (two number number).spelled (n, by)
+spelled_operands (Jump op target) = (one place).spelled target
+spelled_operands (Table op low ts otherwise) = spelled_table low ts otherwise
+spelled_operands (Lookup op rs otherwise) = spelled_lookup rs otherwise
+spelled_operands (Invocation op x count) = (two member number).spelled (x, count)
+spelled_operands (Items op kind) = (one number).spelled kind
+spelled_operands (Dimensions op class count) = (two reference number).spelled (class, count)
+
 abbrev pub spelled_instruction : Instruction → List Token
-spelled_instruction (Plain op) = spelled_op false op []
-spelled_instruction (Push op n) = spelled_op false op ((one number).spelled n)
-spelled_instruction (Load op x) = spelled_op false op ((one loadable).spelled x)
-spelled_instruction (LoadLong op x) = spelled_op false op ((one long_constant).spelled x)
-spelled_instruction (OfClass op class) = spelled_op false op ((one reference).spelled class)
-spelled_instruction (OfMember op x) = spelled_op false op ((one member).spelled x)
-spelled_instruction (Local op n wide) = spelled_op wide op ((one number).spelled n)
-spelled_instruction (Increment op n by wide) = spelled_op wide op ((two number number).spelled (n, by))
-spelled_instruction (Jump op target) = spelled_op false op ((one place).spelled target)
-spelled_instruction (Table op low ts otherwise) = spelled_op false op (number.spelled low ∷ targets.spelled (ts, otherwise))
-spelled_instruction (Lookup op rs otherwise) = spelled_op false op (rows.spelled (rs, otherwise))
-spelled_instruction (Invocation op x count) = spelled_op false op ((two member number).spelled (x, count))
-spelled_instruction (Items op kind) = spelled_op false op ((one number).spelled kind)
-spelled_instruction (Dimensions op class count) = spelled_op false op ((two reference number).spelled (class, count))
+spelled_instruction i = spelled_op (is_wide i) (op_of i) (spelled_operands i)
 
 -- ---- which can be written
 

@@ -1,6 +1,6 @@
 -- The operands of a line, all that stands behind its first word: how they are read, and how they are written. That the two agree is
 -- proved once for each way of putting operands together.
-use Rattle.std.specs.Prelude.{ℕ, ℤ, List, [], ◌∷◌, ◌++◌, Bool, true, false, ◌&&◌, not, if◌then◌else◌, Option, Some, None, option_map, option_and_then, codes}
+use Rattle.std.specs.Prelude.{ℕ, List, [], ◌∷◌, ◌++◌, Bool, true, ◌&&◌, if◌then◌else◌, Option, Some, None, option_map, option_and_then, codes}
 use Rattle.std.specs.List.{list_all}
 use Rattle.mvm_statement.specs.Operands.{Kind, number, place, is_bare}
 use Rattle.mvm_statement.specs.declared.token.Token.{Token}

@@ -1,5 +1,5 @@
 -- Operands: what a token stands for, how it is read, and how it is written. That the two agree is proved once for each kind.
-use Rattle.std.specs.Prelude.{ℕ, ◌+◌, ℤ, List, [], ◌∷◌, ◌++◌, take, drop, Bool, true, false, ◌&&◌, not, nat_lt, ◌==◌, if◌then◌else◌, Option, Some, None, option_map, option_and_then, is_none, bytes_eq, position}
+use Rattle.std.specs.Prelude.{ℕ, ◌+◌, ℤ, List, [], ◌∷◌, ◌++◌, take, drop, Bool, false, ◌&&◌, not, nat_lt, ◌==◌, if◌then◌else◌, Option, Some, None, option_map, option_and_then, is_none, bytes_eq, position}
 use Rattle.std.specs.Fmt.{signed_decimal}
 use Rattle.std.specs.List.{list_all}
 use Rattle.mvm_statement.specs.Tokens.{is_word}

@@ -1,9 +1,9 @@
 -- What a line says, and the line of a statement.
-use Rattle.std.specs.Prelude.{ℕ, List, [], ◌∷◌, ◌++◌, Bool, true, false, ◌&&◌, if◌then◌else◌, Option, Some, None, Result, Ok, Err, option_map, option_and_then, codes, chars}
+use Rattle.std.specs.Prelude.{ℕ, List, [], ◌∷◌, ◌++◌, Bool, true, ◌&&◌, if◌then◌else◌, Option, Some, None, Result, Ok, Err, option_map, option_and_then, codes, chars}
 use Rattle.std.specs.Str.{is_utf8}
 use Rattle.mvm_statement.specs.Tokens.{is_word, tokens, spelled_tokens}
 use Rattle.mvm_statement.specs.Operands.{Kind, number, reference, initial, place, is_bare, or_word}
-use Rattle.mvm_statement.specs.Lines.{Operands, nothing, one, two, three, four, both_of}
+use Rattle.mvm_statement.specs.Lines.{nothing, one, two, three, four, both_of}
 use Rattle.mvm_statement.specs.Words.{word_of, head_of, shape_of}
 use Rattle.mvm_statement.specs.Values.{kind_in, kind_word, kind_of, value_in, spelled_value, is_good_value}
 use Rattle.mvm_statement.specs.Instructions.{instruction_in, spelled_instruction, is_good_instruction}

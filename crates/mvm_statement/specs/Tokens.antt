@@ -1,6 +1,6 @@
 -- A line and its tokens. Tokens stand between blanks; `;` as a token begins a comment; a quoted text has the escapes \" \\ and
 -- \uXXXX, and blanks may stand in it. A token is kept in units of UTF-16.
-use Rattle.std.specs.Prelude.{ℕ, zero, suc, ◌+◌, ◌*◌, ◌/◌, ◌%◌, ◌-◌, List, [], ◌∷◌, ◌++◌, flat_map, map, Bool, true, false, ◌&&◌, ◌||◌, not, nat_lt, nat_le, ◌==◌, if◌then◌else◌, bytes_eq, Option, Some, None, option_to_list}
+use Rattle.std.specs.Prelude.{ℕ, zero, suc, ◌+◌, ◌*◌, ◌/◌, ◌%◌, ◌-◌, List, [], ◌∷◌, ◌++◌, flat_map, map, Bool, true, false, ◌&&◌, ◌||◌, not, nat_lt, nat_le, ◌==◌, if◌then◌else◌, bytes_eq, Some, None, option_to_list}
 use Rattle.std.specs.Char.{digit_value}
 use Rattle.std.specs.List.{list_all}
 use Rattle.mvm_statement.specs.declared.token.Token.{Token}

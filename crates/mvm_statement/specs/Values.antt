@@ -1,6 +1,6 @@
 -- What a `pool` line gives an entry: a kind, and the values that an entry of this kind has (JVM Specification 4.4).
-use Rattle.std.specs.Prelude.{ℕ, List, [], ◌∷◌, Bool, true, Option, Some, None, codes, bytes_eq, option_map, find}
-use Rattle.mvm_statement.specs.Operands.{Kind, number, quoted, index}
+use Rattle.std.specs.Prelude.{ℕ, List, [], ◌∷◌, Bool, Option, None, codes, bytes_eq, option_map, find}
+use Rattle.mvm_statement.specs.Operands.{number, quoted, index}
 use Rattle.mvm_statement.specs.Lines.{one, two}
 use Rattle.mvm_statement.specs.declared.token.Token.{Token}
 use Rattle.mvm_statement.specs.declared.token.Token.TheVariants.{Bare}

@@ -1,6 +1,6 @@
 -- The first word of a line: a directive, a label with its colon, or the mnemonic of an instruction. The mnemonics and what stands
 -- behind each opcode are those of the one table of mvm_insn.
-use Rattle.std.specs.Prelude.{ℕ, ◌-◌, List, [], ◌∷◌, length, take, slice_index, Bool, true, false, not, ◌&&◌, ◌||◌, nat_lt, ◌==◌, if◌then◌else◌, Option, Some, None, codes, bytes_eq, option_map, option_and_then, unwrap_or, find, position}
+use Rattle.std.specs.Prelude.{ℕ, ◌-◌, List, [], ◌∷◌, length, take, slice_index, Bool, true, false, ◌&&◌, ◌||◌, nat_lt, ◌==◌, if◌then◌else◌, Option, Some, None, codes, bytes_eq, option_map, option_and_then, unwrap_or, find, position}
 use Rattle.mvm_insn.specs.Opcodes.{operands_of, mnemonic_of}
 use Rattle.mvm_insn.specs.declared.table.TheConstants.{TABLE}
 use Rattle.mvm_insn.specs.declared.opcodes.TheConstants as jvm

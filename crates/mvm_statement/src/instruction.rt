@@ -6,19 +6,40 @@ use mvm_base::List;
 #[derive(Debug, Drop)]
 pub enum Instruction {
     /// An instruction with nothing behind its opcode.
-    Plain { op: u8 },
+    Plain {
+        op: u8,
+    },
     /// `bipush N` and `sipush N`: the number to push.
-    Push { op: u8, number: i128 },
+    Push {
+        op: u8,
+        number: i128,
+    },
     /// `ldc` and `ldc_w`: what to push.
-    Load { op: u8, constant: Loadable },
+    Load {
+        op: u8,
+        constant: Loadable,
+    },
     /// `ldc2_w`: what to push.
-    LoadLong { op: u8, constant: LongConstant },
+    LoadLong {
+        op: u8,
+        constant: LongConstant,
+    },
     /// `new`, `anewarray`, `checkcast` and `instanceof`, with a class.
-    OfClass { op: u8, class: Reference },
+    OfClass {
+        op: u8,
+        class: Reference,
+    },
     /// The fields' instructions, and the invocations but `invokeinterface`, with a field or a method.
-    OfMember { op: u8, member: Member },
+    OfMember {
+        op: u8,
+        member: Member,
+    },
     /// A load or a store of a local variable.
-    Local { op: u8, local: i128, wide: bool },
+    Local {
+        op: u8,
+        local: i128,
+        wide: bool,
+    },
     /// `iinc LOCAL N`: add to a local variable.
     Increment {
         op: u8,
@@ -27,7 +48,10 @@ pub enum Instruction {
         wide: bool,
     },
     /// A branch, also `goto_w`.
-    Jump { op: u8, target: Place },
+    Jump {
+        op: u8,
+        target: Place,
+    },
     /// `tableswitch LOW PLACE .. default PLACE`: where to go for the lowest key and for each key behind it.
     Table {
         op: u8,
@@ -42,9 +66,20 @@ pub enum Instruction {
         otherwise: Place,
     },
     /// `invokeinterface METHOD COUNT`.
-    Invocation { op: u8, member: Member, count: i128 },
+    Invocation {
+        op: u8,
+        member: Member,
+        count: i128,
+    },
     /// `newarray KIND`, with the code of the kind of its items.
-    Items { op: u8, kind: i128 },
+    Items {
+        op: u8,
+        kind: i128,
+    },
     /// `multianewarray CLASS COUNT`, with the count of its dimensions.
-    Dimensions { op: u8, class: Reference, count: i128 },
+    Dimensions {
+        op: u8,
+        class: Reference,
+        count: i128,
+    },
 }

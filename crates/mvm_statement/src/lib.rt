@@ -1,4 +1,9 @@
-//! Files: one line of the text of a class file, read as a statement, and a statement written as a line.
+//! Files: one line of a class file as text, read as a statement, and a statement written as a line.
+//!
+//! To the layer above it promises: [`read_line`] answers exactly what `line_says` of `specs/Statements.antt` says of the bytes of a
+//! line, a statement, nothing or one of two faults; [`write_line`] adds exactly `text_of` of a statement; and the line of each
+//! statement that can be written says that statement ([`statement_law`]). A number is kept as it is below 2^64 in magnitude, and as
+//! 2^64 or -2^64 from there on: whether it fits its field is for the layer above to say.
 #![tactic(auto)]
 
 mod fault;
@@ -17,6 +22,10 @@ mod statement;
 mod token;
 mod tokens;
 mod words;
+mod write_instruction;
+mod write_operands;
+mod write_statement;
+mod write_tokens;
 
 pub use fault::{AsmKind, LineFault};
 pub use instruction::Instruction;
@@ -25,3 +34,4 @@ pub use operand::{Initial, KeyRow, Loadable, LongConstant, Member, Place, Refere
 pub use pool_value::{IndexKind, MixedKind, NumberKind, PairKind, PoolValue};
 pub use read_statement::read_line;
 pub use statement::Statement;
+pub use write_statement::write_line;

@@ -6,9 +6,15 @@ pub enum PoolValue {
     /// `utf8 "TEXT"`: a text.
     Text(Name),
     /// `int N`, `float N`, `long N` or `double N`: a number, or the bits of one.
-    Number { kind: NumberKind, number: i128 },
+    Number {
+        kind: NumberKind,
+        number: i128,
+    },
     /// `class #n`, `string #n` or `mtype #n`: the index of another entry.
-    Index { kind: IndexKind, index: i128 },
+    Index {
+        kind: IndexKind,
+        index: i128,
+    },
     /// `field #n #n`, `method #n #n`, `imethod #n #n` or `nat #n #n`: the indices of two entries.
     Indices {
         kind: PairKind,

@@ -206,11 +206,7 @@ fn wide_operands(operands: &[Token]) -> Result<Instruction, Unread>
 }
 
 /// The instruction of an opcode and its operands.
-pub(crate) fn instruction(
-    alloc: Global,
-    op: u8,
-    operands: &[Token],
-) -> Result<Instruction, Unread>
+pub(crate) fn instruction(alloc: Global, op: u8, operands: &[Token]) -> Result<Instruction, Unread>
     ensures { Reads result (instruction_in op (shape_of op) operands.now) }
 {
     match shape_of(op) {

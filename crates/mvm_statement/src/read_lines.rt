@@ -53,9 +53,7 @@ pub(crate) fn just_three(operands: &[Token]) -> Result<(&Token, &Token, &Token),
 }
 
 /// The four operands.
-pub(crate) fn just_four(
-    operands: &[Token],
-) -> Result<(&Token, &Token, &Token, &Token), Unread>
+pub(crate) fn just_four(operands: &[Token]) -> Result<(&Token, &Token, &Token, &Token), Unread>
     ensures { MatchResult result (λ x. just_four operands.now ≡ Some (x.0.now, (x.1.now, (x.2.now, x.3.now)))) (λ _. just_four operands.now ≡ None) }
 {
     match operands {

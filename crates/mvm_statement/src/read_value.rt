@@ -82,11 +82,7 @@ pub(crate) fn kind(token: &Token) -> Result<EntryKind, Unread>
 }
 
 /// The value of an entry of a kind.
-pub(crate) fn value(
-    alloc: Global,
-    kind: EntryKind,
-    operands: &[Token],
-) -> Result<PoolValue, Unread>
+pub(crate) fn value(alloc: Global, kind: EntryKind, operands: &[Token]) -> Result<PoolValue, Unread>
     ensures { Reads result (value_in kind operands.now) }
 {
     match kind {

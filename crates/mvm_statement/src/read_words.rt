@@ -6,7 +6,7 @@ ghost use Rattle.mvm_statement.specs.Words.{word_of, directive_of, shape_of, sha
 
 use crate::read_operands::copied;
 use crate::words::{Directive, Head, Shape};
-use mvm_insn::opcodes::{ANEWARRAY, CHECKCAST, INSTANCEOF, LDC2_W, LDC_W, NEW};
+use mvm_insn::opcodes::{ANEWARRAY, CHECKCAST, INSTANCEOF, LDC_W, LDC2_W, NEW};
 use mvm_insn::table::TABLE;
 use mvm_insn::{Operands, operands_of};
 use mvm_layout::pool::same_text;
@@ -48,10 +48,7 @@ const DIRECTIVES: [Directive; 10] = [
 fn directive_in(directives: &[Directive], word: &[u16]) -> Option<Directive>
     ensures { result ≡ find (λ directive. bytes_eq word.now (word_of directive)) directives.now }
 {
-    directives
-        .iter()
-        .copied()
-        .find(|directive| same_text(word, word_of(*directive).as_bytes()))
+    directives.iter().copied().find(|directive| same_text(word, word_of(*directive).as_bytes()))
 }
 
 /// The directive of a word.

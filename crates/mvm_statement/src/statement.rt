@@ -7,9 +7,15 @@ use mvm_base::Name;
 #[derive(Debug, Drop)]
 pub enum Statement {
     /// `version MINOR MAJOR`: the version of the class file.
-    Version { minor: i128, major: i128 },
+    Version {
+        minor: i128,
+        major: i128,
+    },
     /// `pool N KIND VALUES`: the entry of the constant pool at index N.
-    Entry { index: i128, value: PoolValue },
+    Entry {
+        index: i128,
+        value: PoolValue,
+    },
     /// `class FLAGS THIS SUPER`: the class; `None` where SUPER is `none`.
     Class {
         flags: i128,
@@ -17,7 +23,9 @@ pub enum Statement {
         super_class: Option<Reference>,
     },
     /// `implements CLASS`: a direct superinterface.
-    Implements { interface: Reference },
+    Implements {
+        interface: Reference,
+    },
     /// `field FLAGS NAME DESC`, with an optional `constant VALUE`.
     Field {
         flags: i128,
@@ -32,13 +40,22 @@ pub enum Statement {
         desc: Reference,
     },
     /// `code STACK LOCALS`: the code of the method above begins.
-    Code { max_stack: i128, max_locals: i128 },
+    Code {
+        max_stack: i128,
+        max_locals: i128,
+    },
     /// `LABEL:`, a name for this place of the code.
-    Label { name: Name },
+    Label {
+        name: Name,
+    },
     /// `MNEMONIC OPERANDS`: an instruction.
-    Instruction { line: Instruction },
+    Instruction {
+        line: Instruction,
+    },
     /// `byte V`: a byte of code as it is.
-    Byte { value: i128 },
+    Byte {
+        value: i128,
+    },
     /// `catch FROM TO HANDLER CLASS`: a row of the exception table; `None` where CLASS is `any`.
     Catch {
         start: Place,
