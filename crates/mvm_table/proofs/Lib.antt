@@ -17,3 +17,4 @@ mod Read
 mod Starting
 mod Stepping
 mod Linking
+mod Shelving

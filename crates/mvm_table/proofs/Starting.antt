@@ -86,16 +86,16 @@ shelf_gives table set name None a e = tt
 -- ---- the class that was loaded
 
 -- the class of a name keeps what the calls want that are handed a class
-pub is_loaded : (table : List (List File)) (set : ℕ) (name : List ℕ) (class : Lineage) → class_in table set name ≡ Ok class → IsLoaded table class
+pub is_loaded : (table : List (List File)) (set : ℕ) (name : List ℕ) (class : Lineage) → set < length table → class_in table set name ≡ Ok class → IsLoaded table class
 unfolding load_with class_of
-is_loaded table set name class e =
+is_loaded table set name class w e =
     let files = files_in set table in
     let f = family_of set (load files name) class e in
     let s : set ≡ class.set = ap (λ (c : Lineage). c.set) f.2 in
     let own : own_name class.file ≡ Some name =
     ap (λ (c : Lineage). own_name c.file) (sym f.2) ∙ loaded_named (found files) (file_named files) (length (known files) + 1) [] name f.0 f.1 in
-    record { name = name; is_name = own; is_class = subst (λ (n : ℕ). class_in table n name ≡ Ok class) s e }
+    record { name = name; is_name = own; is_class = subst (λ (n : ℕ). class_in table n name ≡ Ok class) s e; is_set = subst (λ (n : ℕ). n < length table) s w }
 
-pub answers_loaded : (table : List (List File)) (set : ℕ) (name : List ℕ) (result : Result Lineage LoadFault) → AnswersUnless OutOfMemory result (class_in table set name) → IfOk result (λ class. IsLoaded table class)
-answers_loaded table set name (Ok class) h = is_loaded table set name class h
-answers_loaded table set name (Err fault) h = tt
+pub answers_loaded : (table : List (List File)) (set : ℕ) (name : List ℕ) (result : Result Lineage LoadFault) → set < length table → AnswersUnless OutOfMemory result (class_in table set name) → IfOk result (λ class. IsLoaded table class)
+answers_loaded table set name (Ok class) w h = is_loaded table set name class w h
+answers_loaded table set name (Err fault) w h = tt

@@ -1,5 +1,7 @@
 -- What a table stands for.
-use Rattle.std.specs.Prelude.{◌≡◌, ◌<◌, ◌^◌, ℕ, List, [], length, slice_get, Bool, is_some, Option, Some, None, All, Ok}
+use Rattle.std.specs.Str.{bytes_eq}
+use Rattle.mvm_set.specs.Names.{own_name}
+use Rattle.std.specs.Prelude.{◌≡◌, ◌<◌, ◌^◌, ◌==◌, ◌&&◌, if◌then◌else◌, option_and_then, true, ℕ, List, [], length, slice_get, Bool, is_some, Option, Some, None, All, Ok}
 use Rattle.mvm_set.specs.declared.class.Lineage.{Lineage}
 use Rattle.mvm_table.specs.Files.{File}
 use Rattle.mvm_table.specs.Loads.{class_in}
@@ -22,6 +24,19 @@ shelf_of set shelves = or_empty (slice_get shelves set)
 -- a class of this name stands on the shelf of a set
 abbrev pub is_shelved : Contents → ℕ → List ℕ → Bool
 is_shelved table set name = is_some (row name (shelf_of set table.shelves))
+
+-- a class stands on the shelf of its set
+abbrev pub stands : Contents → Lineage → Bool
+stands table class = is_some (option_and_then (λ name. row name (shelf_of class.set table.shelves)) (own_name class.file))
+
+-- what stood on a shelf stays
+abbrev pub Stay : Contents → Contents → Type 0
+Stay old new = (set : ℕ) (name : List ℕ) → is_shelved old set name ≡ true → is_shelved new set name ≡ true
+
+-- a class stands under its name on the shelf of a set, besides what stood there
+abbrev pub PutsOn : List (Rows Lineage) → ℕ → List ℕ → Lineage → List (Rows Lineage) → Type 0
+PutsOn old set name class new =
+    (other_set : ℕ) (other : List ℕ) → row other (shelf_of other_set new) ≡ (if (other_set == set) && bytes_eq other name then Some class else row other (shelf_of other_set old))
 
 -- each class on a shelf is the one that loading gives for its name
 pub record AreShelved (files : List (List File)) (shelves : List (Rows Lineage)) : Type 0 where

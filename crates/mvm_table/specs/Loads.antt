@@ -1,5 +1,5 @@
 -- What the calls that load answer.
-use Rattle.std.specs.Prelude.{◌≡◌, ℕ, List, Option, Some, None, Result, Ok, Err}
+use Rattle.std.specs.Prelude.{◌≡◌, ◌<◌, ℕ, length, List, Option, Some, None, Result, Ok, Err}
 use Rattle.mvm_base.specs.Answers.{◌>>=◌}
 use Rattle.mvm_set.specs.Names.{own_name}
 use Rattle.mvm_set.specs.Family.{Family}
@@ -25,6 +25,8 @@ pub record IsLoaded (table : List (List File)) (class : Lineage) : Type 0 where
   pub name : List ℕ
   pub is_name : own_name class.file ≡ Some name
   pub is_class : class_in table class.set name ≡ Ok class
+  -- its set is one of them
+  pub is_set : class.set < length table
 
 -- ---- what was loaded, by name
 

@@ -3,7 +3,8 @@
 //! To the layers above it promises: [`Table::class`] answers what `load` of `specs/Load.antt` gives for a name on the files of its set,
 //! the class or the first fault, unless memory runs out; and each class that it gives is the one that loading gives for its own
 //! name, as `IsLoaded` of `specs/Loads.antt` says. [`Table::linked`] answers, for such a class, what `linked` of `specs/Link.antt`
-//! gives for its name. Nobody learns that a file or a class is shared.
+//! gives for its name. A class that [`Table::shelve`] put on the shelf of its set stands there for all later calls, and costs one step.
+//! Nobody learns that a file or a class is shared.
 #![tactic(auto)]
 
 mod begun;
@@ -12,6 +13,7 @@ mod find;
 mod link;
 mod load;
 mod name_map;
+mod shelf;
 mod source;
 mod table;
 

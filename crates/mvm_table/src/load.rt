@@ -1,4 +1,4 @@
-ghost use Rattle.std.specs.Prelude.{◌≡◌, ◌++◌, ◌∷◌, [], ◌+◌, ◌<◌, true, None, IfOk, OnOk};
+ghost use Rattle.std.specs.Prelude.{◌≡◌, ◌++◌, ◌∷◌, [], ◌+◌, ◌<◌, true, length, None, IfOk, OnOk};
 ghost use Rattle.mvm_base.specs.Answers.{AnswersUnless};
 ghost use Rattle.mvm_set.specs.Over.{class_over};
 ghost use Rattle.mvm_table.specs.Files.{files_in};
@@ -243,7 +243,7 @@ impl Table {
     }
 
     /// The class of a name in a set (JVM Specification 5.3): a built-in class, or the one of the set's file, with all that it inherits
-    /// from. A set that the table does not have has the built-in classes alone.
+    /// from.
     ///
     /// # Errors
     ///
@@ -254,6 +254,8 @@ impl Table {
         name: &Name,
         steps: &mut Steps<L>,
     ) -> Result<Shared<Class>, LoadFault>
+        // The set is one of the table's.
+        requires { set < length self.now.files }
         ensures loads { AnswersUnless LoadFault.OutOfMemory result (class_in self.now.files set name.now) }
         // It is as the calls want it that are handed a class.
         ensures loaded { IfOk result (λ class. IsLoaded self.now.files class) }

@@ -1,4 +1,4 @@
-ghost use Rattle.std.specs.Prelude.{◌≡◌, [], OnOk, IfOk};
+ghost use Rattle.std.specs.Prelude.{◌≡◌, [], OnOk, OnErr};
 ghost use Rattle.std.specs.Option.{option_copied};
 ghost use Rattle.mvm_table.specs.NameMap.{row, Puts};
 
@@ -42,7 +42,8 @@ impl<T> NameMap<T> {
 impl<T: Drop> NameMap<T> {
     /// Puts a value under a name, in the place of another that stands there.
     pub(crate) fn put(&mut self, alloc: Global, name: &Name, value: T) -> Result<(), OutOfMemory>
-        ensures { OnOk result (Puts self.old name.now value self.new) }
+        ensures ok { OnOk result (Puts self.old name.now value self.new) }
+        ensures err { OnErr result (self.new ≡ self.old) }
     {
         let key = Vec::from_slice(alloc, name.units())?;
         self.rows.insert(key, value)?;

@@ -27,12 +27,13 @@ pub struct Table {
 impl Model for Table {
     ghost use Rattle.mvm_table.specs.Contents.{Contents, AreShort, AreShelved};
     ghost use Rattle.mvm_table.specs.Files.{all_files};
+    ghost use Rattle.std.specs.Prelude.{◌≡◌, length};
 
     ghost Value = { Contents };
 
     ghost view = { λ t. record { files = all_files t.sources t.sets; shelves = t.shelves.items } };
 
-    ghost invariant = { λ t. AreShort t.sources × AreShelved (all_files t.sources t.sets) t.shelves.items };
+    ghost invariant = { λ t. AreShort t.sources × AreShelved (all_files t.sources t.sets) t.shelves.items × (length t.shelves.items ≡ length t.sets) };
 }
 
 impl Table {
@@ -89,7 +90,8 @@ fn on_shelves<'a>(
 
 /// So many shelves without classes.
 fn empty_shelves(alloc: Global, count: usize) -> Result<Vec<NameMap<Shared<Class>>>, OutOfMemory>
-    ensures { IfOk result (λ shelves. AreEmpty shelves.items) }
+    ensures empty { IfOk result (λ shelves. AreEmpty shelves.items) }
+    ensures count { IfOk result (λ shelves. length shelves.items ≡ count) }
 {
     let mut shelves = Vec::new(alloc);
     for _ in 0..count {

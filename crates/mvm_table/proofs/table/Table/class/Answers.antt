@@ -4,7 +4,7 @@ use Rattle.mvm_table.proofs.table.Table.class.Goals as goal
 
 pub returns-in-Some-clause-loaded : goal.returns-in-Some-clause-loaded
 returns-in-Some-clause-loaded g c =
-    is_loaded c.args.self.now.files c.args.set c.args.name.now c.in_ok-class.class (c.in-Some.ensures.loaded ∙ ap ok_class (sym c.in_ok-class.ensures))
+    is_loaded c.args.self.now.files c.args.set c.args.name.now c.in_ok-class.class c.requires (c.in-Some.ensures.loaded ∙ ap ok_class (sym c.in_ok-class.ensures))
 
 pub returns-clause-loaded : goal.returns-clause-loaded
-returns-clause-loaded g c = answers_loaded c.args.self.now.files c.args.set c.args.name.now c.load.result c.load.ensures
+returns-clause-loaded g c = answers_loaded c.args.self.now.files c.args.set c.args.name.now c.load.result c.requires c.load.ensures

@@ -16,4 +16,4 @@ run-requires g c =
     let files = files_in a.set a.self.now.files in
     subst (λ (begun : List Begun). IsLoading a.set files a.name.now begun c.put.new.self)
     (sym (c.in_ok-push.ensures.items ∙ ap (λ (begun : List Begun). begun ++ c.in-Ok.new ∷ []) c.new-begun.ensures.items))
-    (begins a.set files a.name.now c.in-Ok.new c.put.new.self c.in-Ok.ensures (subst (λ old. Puts old a.name.now None c.put.new.self) c.new-met.ensures c.in_ok-put.ensures))
+    (begins a.set files a.name.now c.in-Ok.new c.put.new.self c.in-Ok.ensures (subst (λ old. Puts old a.name.now None c.put.new.self) c.new-met.ensures c.in_ok-put.ensures.ok))
