@@ -4,6 +4,10 @@
 //! refusal reads as on standard error, and ends with the status. What `launch` promises stands at it.
 #![tactic(auto)]
 
+#[cfg(test)]
+mod attempts;
+#[cfg(test)]
+mod files;
 mod launch;
 mod outcome;
 mod refusal;

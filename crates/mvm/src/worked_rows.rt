@@ -10,7 +10,7 @@ use std::test::Fail;
 use std::thread::Threads;
 
 // A class `Main` that prints the numbers from 0 to 9.
-const MAIN: [u8; 180] = [
+pub(crate) const MAIN: [u8; 180] = [
     0xca, 0xfe, 0xba, 0xbe, 0x00, 0x00, 0x00, 0x34, 0x00, 0x0e, 0x01, 0x00, 0x04, 0x4d, 0x61, 0x69,
     0x6e, 0x07, 0x00, 0x01, 0x01, 0x00, 0x10, 0x6a, 0x61, 0x76, 0x61, 0x2f, 0x6c, 0x61, 0x6e, 0x67,
     0x2f, 0x4f, 0x62, 0x6a, 0x65, 0x63, 0x74, 0x07, 0x00, 0x03, 0x01, 0x00, 0x04, 0x6d, 0x61, 0x69,
@@ -78,7 +78,8 @@ const ROWS: [(
         Some(Refusal::Class(ClassFault::Pool(9))),
         "",
     ),
-    (0, 0xca, Some(0), ALL, None, 3, Some(Refusal::ReadFault), ""),
+    // all bytes are read, and then a read fails
+    (0, 0xca, Some(1), ALL, None, 3, Some(Refusal::ReadFault), ""),
     (
         0,
         0xca,
@@ -119,6 +120,18 @@ struct Answer {
     taken: List<u8>,
 }
 
+// What `launch` answers to the word `run`.
+fn run<R: Threads + Sync>(
+    rt: &R,
+    alloc: Global,
+    source: &mut MemorySource,
+    sink: &mut MemorySink,
+) -> Result<Ended, AllocError> {
+    let words = [String::from_str(alloc, "run")?];
+    let mut store = MemoryStore::new(List::new(alloc), List::new(alloc));
+    Ok(launch(rt, alloc, &words, source, &mut store, sink, &NoGate))
+}
+
 // A call with the word `run` over these bytes, of whose reads and writes those of these numbers fail, into a sink that takes so
 // many bytes a call.
 fn call<R: Threads + Sync>(
@@ -129,19 +142,9 @@ fn call<R: Threads + Sync>(
     most: usize,
     failing_write: Option<u64>,
 ) -> Result<Answer, AllocError> {
-    let words = [String::from_str(alloc, "run")?];
     let mut source = MemorySource::new(bytes, numbers(alloc, failing_read)?);
-    let mut store = MemoryStore::new(List::new(alloc), List::new(alloc));
     let mut sink = MemorySink::new(alloc, most, numbers(alloc, failing_write)?);
-    let ended = launch(
-        rt,
-        alloc,
-        &words,
-        &mut source,
-        &mut store,
-        &mut sink,
-        &NoGate,
-    );
+    let ended = run(rt, alloc, &mut source, &mut sink)?;
     Ok(Answer {
         status: ended.status,
         refusal: refusal_of(&ended),

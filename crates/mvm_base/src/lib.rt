@@ -38,6 +38,3 @@ pub use modified_utf8::{Utf8Fault, decode_mutf8, encode_mutf8};
 pub use name::Name;
 pub use steps::Steps;
 pub use value::{Kind, Word};
-
-#[cfg(test)]
-mod tests;

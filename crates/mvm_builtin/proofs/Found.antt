@@ -1,5 +1,5 @@
 -- What is known of each row is known of the one that is found.
-use Rattle.std.proofs.Common.{ℕ, suc, zero, Bool, true, false, cond, List, [], ◌∷◌, Option, Some, None}
+use Rattle.std.proofs.Common.{ℕ, suc, zero, Bool, true, false, cond, List, [], ◌∷◌, Some}
 use Rattle.std.specs.Prelude.{IfSome, slice_get}
 use Rattle.std.specs.Str.{bytes_eq}
 use Rattle.mvm_builtin.specs.Table.{Row, named}

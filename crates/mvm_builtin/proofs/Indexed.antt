@@ -1,10 +1,10 @@
 -- The row that the index leads to is that of the name.
-use Rattle.std.proofs.Common.{◌≡◌, ◌≢◌, ℕ, zero, suc, ◌+◌, ◌<◌, Bool, List, [], ◌∷◌, Option, Some, None, length, get_or, drop, refl, sym, ap, ◌∙◌, subst, arith}
+use Rattle.std.proofs.Common.{◌≡◌, ◌≢◌, ℕ, zero, suc, ◌+◌, ◌<◌, List, [], ◌∷◌, Option, Some, None, length, get_or, drop, refl, ◌∙◌, subst, arith}
 use Rattle.std.specs.Prelude.{All, IfSome}
 use Rattle.std.specs.List.{AllByRecursion, HoldsAt}
 use Rattle.std.specs.Borrow.{Bor}
 use Rattle.std.proofs.lemmas.List.Elements.{All-from_recursion}
-use Rattle.mvm_builtin.specs.Table.{Line, Row, line_of, lines_of, until_class, row_from, named, rows, table}
+use Rattle.mvm_builtin.specs.Table.{Row, line_of, lines_of, until_class, row_from, named, rows, table}
 use Rattle.mvm_builtin.specs.Index.{Entry, index, IsEntryOf}
 use Rattle.mvm_builtin.specs.declared.table.Sort.{Sort}
 use Rattle.mvm_builtin.proofs.Found.{EachRow, found_named}
@@ -24,10 +24,8 @@ abbrev pub IsIndexed : Entry → Type 0
 IsIndexed entry = named entry.0 rows ≡ row_from (drop entry.1 table)
 
 -- a row's name has an entry
-pub record HasEntry (name : List ℕ) : Type 0 where
-  pub at : ℕ
-  pub within : at < length index
-  pub holds : HoldsAt (λ entry. entry.0 ≡ name) index at
+abbrev pub HasEntry : List ℕ → Type 0
+HasEntry name = (at : ℕ) × (at < length index) × HoldsAt (λ entry. entry.0 ≡ name) index at
 
 abbrev pub RowHasEntry : Row → Type 0
 RowHasEntry row = HasEntry row.head.name
@@ -47,4 +45,4 @@ unnamed name each none = by (named name rows) refl (found_named RowHasEntry name
     by (Some row) is e =
         let d : Entry = ([], 0) in
         let same : row.head.name ≡ name = named_name name rows row is in
-        absurd (none e.at d e.within (e.holds d ∙ same))
+        absurd (none e.0 d e.1 (e.2 d ∙ same))

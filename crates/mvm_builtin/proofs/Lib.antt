@@ -4,3 +4,4 @@ pub mod Numbers
 pub mod Halving
 pub mod Indexed
 pub mod Computed
+pub mod Checked

@@ -1,6 +1,10 @@
 -- What each row keeps at its place, and what that says of the class of a name.
 use Rattle.std.proofs.Common.{◌≡◌, ℕ, zero, suc, ◌+◌, ◌<◌, Bool, true, false, cond, List, [], ◌∷◌, Option, Some, None, refl, sym, ap, ◌∙◌, subst, arith}
-use Rattle.std.specs.Prelude.{slice_get, nat_lt, All}
+use Rattle.std.specs.Prelude.{slice_get, nat_lt, All, IsSome, ◌↔◌, length}
+use Rattle.std.proofs.Common.{get_or}
+use Rattle.std.proofs.lemmas.Option.{slice_get_within, slice_get-get_or}
+use Rattle.mvm_builtin.specs.declared.table.TheConstants.{CLASSES}
+use Rattle.mvm_builtin.specs.declared.table.Sort.TheVariants.{Class}
 use Rattle.std.specs.Option.{option_map}
 use Rattle.std.specs.Str.{bytes_eq}
 use Rattle.std.proofs.lemmas.Bool.{ltb-true}
@@ -31,12 +35,15 @@ abbrev SupersKept : List Row → ℕ → List Item → List ℕ → Type 0
 SupersKept all place pool [] = Unit {0}
 SupersKept all place pool (index ∷ indices) = SuperKept all true place (class_name pool index) × SupersKept all place pool indices
 
-pub record Kept (all : List Row) (place : ℕ) (row : Row) : Type 0 where
-  pub placed : rows_before row.head.name all ≡ place
-  pub named : own_name (made row) ≡ Some row.head.name
-  pub public : has_flag flag.PUBLIC (made row).flags ≡ true
-  pub superclass : SuperKept all false place (class_name (made row).pool (made row).super_class)
-  pub superinterfaces : SupersKept all place (made row).pool (made row).interfaces
+-- A row stands at the place of its name, its class calls itself by that name and is public, and its superclass and its superinterfaces are
+-- kept so.
+abbrev pub Kept : List Row → ℕ → Row → Type 0
+Kept all place row =
+    (rows_before row.head.name all ≡ place)
+    × (own_name (made row) ≡ Some row.head.name)
+    × (has_flag flag.PUBLIC (made row).flags ≡ true)
+    × SuperKept all false place (class_name (made row).pool (made row).super_class)
+    × SupersKept all place (made row).pool (made row).interfaces
 
 -- each of the rows that stand from a place on
 abbrev pub AllKept : List Row → ℕ → List Row → Type 0
@@ -100,6 +107,20 @@ found_in name rows file k e = by (named name rows) refl e
 
 -- ---- what it says of the built-in classes
 
+no_row : Row
+no_row = record { head = record { sort = Class; name = []; desc = [] }; lines = [] }
+
+pub count_so : (place : ℕ) → length rows ≡ CLASSES → IsSome (builtin_at place) ↔ (place < CLASSES)
+unfolding builtin_at
+count_so place counted = (λ some. below (slice_get rows place) refl some, λ h. at h)
+  where
+    below : (found : Option Row) → slice_get rows place ≡ found → IsSome (option_map made found) → place < CLASSES
+    below None is some = absurd cc
+    below (Some row) is some = let within : place < length rows = slice_get_within rows place row is in omega (arith, counted)
+
+    at : place < CLASSES → IsSome (option_map made (slice_get rows place))
+    at h = let within : place < length rows = omega (arith, counted) in let is : slice_get rows place ≡ Some (get_or rows place no_row) = slice_get-get_or rows place no_row within in subst (λ (found : Option Row). IsSome (option_map made found)) (sym is) refl
+
 pub placed : (name : List ℕ) → builtin name ≡ builtin_at (place_of name)
 unfolding builtin builtin_at place_of
 placed name = ap (option_map made) (named_is name rows)
@@ -108,13 +129,13 @@ pub named_so : (name : List ℕ) (file : Parts) → AllKept rows 0 rows → buil
 unfolding builtin
 named_so name file k e =
     let f : Found name rows file = found_in name rows file k e in
-    ap (λ (p : Parts). own_name p) (sym f.is_file) ∙ f.kept.named ∙ ap (λ (n : List ℕ). Some n) f.is_name
+    ap (λ (p : Parts). own_name p) (sym f.is_file) ∙ f.kept.1 ∙ ap (λ (n : List ℕ). Some n) f.is_name
 
 pub public_so : (name : List ℕ) (file : Parts) → AllKept rows 0 rows → builtin name ≡ Some file → has_flag flag.PUBLIC file.flags ≡ true
 unfolding builtin
 public_so name file k e =
     let f : Found name rows file = found_in name rows file k e in
-    ap (λ (p : Parts). has_flag flag.PUBLIC p.flags) (sym f.is_file) ∙ f.kept.public
+    ap (λ (p : Parts). has_flag flag.PUBLIC p.flags) (sym f.is_file) ∙ f.kept.2
 
 pub record Placed (place : ℕ) (file : Parts) : Type 0 where
   pub name : List ℕ
@@ -133,8 +154,8 @@ placed_so place file k e = by (slice_get rows place) refl e
         let zero_more : 0 + place ≡ place = omega arith in
         record {
           name = row.head.name;
-          is_name = ap (λ (p : Parts). own_name p) (sym same) ∙ kept.named;
-          is_place = kept.placed ∙ zero_more;
+          is_name = ap (λ (p : Parts). own_name p) (sym same) ∙ kept.1;
+          is_place = kept.0 ∙ zero_more;
         }
 
 super_so : (as_interface : Bool) (super name : List ℕ) → SuperKept rows as_interface (rows_before name rows) (Some super) → StandsBefore as_interface super name
@@ -150,7 +171,7 @@ unfolding builtin
 superclass_so name super file k e s =
     let f : Found name rows file = found_in name rows file k e in
     let is : class_name (made f.row).pool (made f.row).super_class ≡ Some super = ap (λ (p : Parts). class_name p.pool p.super_class) f.is_file ∙ s in
-    super_so false super name (subst (SuperKept rows false (rows_before name rows)) is f.kept.superclass)
+    super_so false super name (subst (SuperKept rows false (rows_before name rows)) is f.kept.3)
 
 each_so : (name : List ℕ) (pool : List Item) (indices : List ℕ) → SupersKept rows (rows_before name rows) pool indices → All (λ index. (super : List ℕ) → class_name pool index ≡ Some super → StandsBefore true super name) indices
 each_so name pool [] k = All-nil (λ index. (super : List ℕ) → class_name pool index ≡ Some super → StandsBefore true super name)
@@ -163,4 +184,4 @@ pub superinterfaces_so : (name : List ℕ) (file : Parts) → AllKept rows 0 row
 unfolding builtin
 superinterfaces_so name file k e =
     let f : Found name rows file = found_in name rows file k e in
-    subst (λ (p : Parts). All (λ index. (super : List ℕ) → class_name p.pool index ≡ Some super → StandsBefore true super name) p.interfaces) f.is_file (each_so name (made f.row).pool (made f.row).interfaces f.kept.superinterfaces)
+    subst (λ (p : Parts). All (λ index. (super : List ℕ) → class_name p.pool index ≡ Some super → StandsBefore true super name) p.interfaces) f.is_file (each_so name (made f.row).pool (made f.row).interfaces f.kept.4)

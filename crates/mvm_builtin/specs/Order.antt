@@ -1,7 +1,7 @@
 -- The order of the built-in classes: each stands behind its supers, so that loading them ends (JVM Specification 5.3.5).
 use Rattle.std.specs.Prelude.{◌≡◌, ℕ, zero, suc, ◌<◌, List, [], ◌∷◌, Bool, if◌then◌else◌, Option, Some}
 use Rattle.std.specs.Str.{bytes_eq}
-use Rattle.mvm_layout.specs.Flags.{is_interface, has_flag}
+use Rattle.mvm_layout.specs.Flags.{is_interface}
 use Rattle.mvm_layout.specs.Pool.{class_name}
 use Rattle.mvm_layout.specs.declared.parts.Parts.{Parts}
 use Rattle.mvm_builtin.specs.Table.{Row, rows}

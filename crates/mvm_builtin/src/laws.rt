@@ -1,9 +1,9 @@
-ghost use Rattle.std.specs.Prelude.{◌≡◌, ℕ, List, All, Some, length, true, false};
+ghost use Rattle.std.specs.Prelude.{◌≡◌, ◌↔◌, ◌<◌, ℕ, List, All, Some, IsSome, Ok, true, false};
 ghost use Rattle.mvm_layout.specs.Flags.{has_flag};
 ghost use Rattle.mvm_layout.specs.Pool.{class_name};
 ghost use Rattle.mvm_layout.specs.declared.flags.TheConstants.{PUBLIC};
 ghost use Rattle.mvm_layout.specs.declared.parts.Parts.{Parts};
-ghost use Rattle.mvm_builtin.specs.Table.{rows};
+ghost use Rattle.mvm_check.specs.Check.{check_of};
 ghost use Rattle.mvm_builtin.specs.Classes.{builtin, builtin_at};
 ghost use Rattle.mvm_builtin.specs.Natives.{number, native_at, IsMethodOf};
 ghost use Rattle.mvm_builtin.specs.Order.{place_of, own_name, StandsBefore};
@@ -13,8 +13,8 @@ use crate::table::CLASSES;
 
 /// What holds of all built-in classes.
 pub fn builtin_law()
-    // There are so many places.
-    ensures count { length rows ≡ CLASSES }
+    // There is one at each place below so many, and at no other.
+    ensures count { (place : ℕ) → IsSome (builtin_at place) ↔ (place < CLASSES) }
     // The class of a name is the one at the place of that name.
     ensures placed { (name : List ℕ) → builtin name ≡ builtin_at (place_of name) }
     // Each has a name, and its place is that of the name: so no two have one name.
@@ -23,6 +23,8 @@ pub fn builtin_law()
     ensures named { (name : List ℕ) (file : Parts) → builtin name ≡ Some file → own_name file ≡ Some name }
     // Each is public.
     ensures public { (name : List ℕ) (file : Parts) → builtin name ≡ Some file → has_flag PUBLIC file.flags ≡ true }
+    // Its code keeps the static constraints on code, so that linking it finds no fault.
+    ensures checked { (name : List ℕ) (file : Parts) → builtin name ≡ Some file → check_of file ≡ Ok tt }
     // The superclass of each is a built-in class, no interface, that stands before it.
     ensures superclass { (name super : List ℕ) (file : Parts) → builtin name ≡ Some file → class_name file.pool file.super_class ≡ Some super → StandsBefore false super name }
     // Each superinterface is a built-in interface that stands before it.

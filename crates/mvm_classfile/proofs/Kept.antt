@@ -89,7 +89,7 @@ name_kept test None h = absurd cc
 name_kept test (Some name) h = h
 
 -- the rule on members gives this of each, as it is kept
-members_kept : (P : Member → Type 0) (part : MemberInfo → Member) (rule : List MemberInfo → MemberInfo → Result (Unit {0}) ClassFault)
+pub members_kept : (P : Member → Type 0) (part : MemberInfo → Member) (rule : List MemberInfo → MemberInfo → Result (Unit {0}) ClassFault)
     → ((before : List MemberInfo) (m : MemberInfo) → MemberFits m → rule before m ≡ kept → P (part m))
     → (before ms : List MemberInfo) → Each MemberFits ms → each_after before rule ms ≡ kept → All P (map part ms)
 members_kept P part rule one before [] fits e = All-nil P

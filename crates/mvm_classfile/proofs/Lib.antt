@@ -2,6 +2,7 @@ pub mod Answered
 pub mod Plain
 pub mod Items
 pub mod Named
+pub mod Numbers
 pub mod Pieces
 pub mod Rule
 pub mod Fields
@@ -11,3 +12,4 @@ pub mod Shorter
 pub mod Made
 pub mod Kept
 pub mod Codes
+pub mod Fitting

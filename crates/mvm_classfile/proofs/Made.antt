@@ -192,7 +192,7 @@ countable parts is = subst (λ (p : Parts). is_countable p ≡ true) (sym is.rea
 parts_fit : (parts : Parts) → IsClassFile parts → fits parts ≡ true
 parts_fit parts is = subst (λ (p : Parts). fits p ≡ true) (sym is.reads.parts_are) (info_fits is.reads.info is.text is.short (reads_short parts is))
 
-rebuilt_is : (parts : Parts) → IsClassFile parts → rebuilt parts ≡ Ok parts
+pub rebuilt_is : (parts : Parts) → IsClassFile parts → rebuilt parts ≡ Ok parts
 unfolding rebuilt
 rebuilt_is parts is = rw (parts_fit parts is) (reading-complete (written parts) parts (written_again parts is))
 

@@ -21,6 +21,8 @@ use Rattle.mvm_classfile.specs.Writing.{u2, Names, written_attribute, written_co
 use Rattle.mvm_classfile.proofs.Pieces.{Each, AttributeFits, MemberFits, code_fits, attribute_again, member_again, counted_again}
 use Rattle.mvm_classfile.proofs.Plain.{both_hold, not_true}
 use Rattle.mvm_classfile.proofs.Named.{text_is_utf8}
+use Rattle.mvm_classfile.proofs.Numbers.{code_kept}
+use Rattle.mvm_classfile.specs.Kept.{CodeFits}
 use Rattle.mvm_classfile.proofs.Rule.{kept, holds_true, holds_again, and_again, both, both_again, method_desc_again, first_found, key, met_again, key_more}
 use Rattle.mvm_classfile.proofs.Fields.{Serves}
 
@@ -39,6 +41,7 @@ pub record IsWritten (pool : List Item) (names : Names) (c : Code) : Type 0 wher
   pub low : names.code < 256 ^ 2
   pub spelled : (at : ℕ) → code.spells (record { code = c; attributes = [] }) at (written_code c)
   pub short : length (written_code c) < 256 ^ 4
+  pub numbers : CodeFits c
 
 abbrev pub CodeSound : List Item → Names → ℕ → Option Code → Type 0
 CodeSound pool names flags None = has_no_code flags ≡ true
@@ -115,7 +118,7 @@ sound_of pool names a flags serves fits named i s =
     let c = code_fits i.info (a.at + 6) a.content fits.bytes spelled in
     let low : names.code < 256 ^ 2 = omega (arith, serves.low a.name named, fits.name) in
     let short : length (written_code i.info.code) < 256 ^ 4 = omega (arith, c.short, fits.short) in
-    subst (λ (o : Option CodeInfo). CodeSound pool names flags (code_of_info o)) (sym i.is) (s, record { named = serves.named a.name named; low = low; spelled = c.spelled; short = short })
+    subst (λ (o : Option CodeInfo). CodeSound pool names flags (code_of_info o)) (sym i.is) (s, record { named = serves.named a.name named; low = low; spelled = c.spelled; short = short; numbers = code_kept i.info (a.at + 6) a.content fits.bytes spelled })
 
 code_sound_at : (pool : List Item) (names : Names) (m : MemberInfo) (is : Bool) (found : List AttributeParts) → Serves pool (codes "Code") names.code → MemberFits m → has_no_code m.flags ≡ is → filter (is_named pool (codes "Code")) m.attributes ≡ found
     → (length found == cond is 0 1) ≡ true → each (method_attribute pool) m.attributes ≡ kept → CodeSound pool names m.flags (code_of (first found))

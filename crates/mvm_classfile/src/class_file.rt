@@ -1,5 +1,5 @@
 ghost use Rattle.std.specs.Prelude.{◌≡◌, All, IsTrue};
-ghost use Rattle.mvm_classfile.specs.Kept.{IsLinked, HasClasses, IsClassField, IsClassMethod, AreApart};
+ghost use Rattle.mvm_classfile.specs.Kept.{IsLinked, HasClasses, IsClassField, IsClassMethod, AreApart, NumbersFit};
 ghost use Rattle.mvm_classfile.specs.Reading.{IsClassFile};
 ghost use Rattle.mvm_classfile.specs.Writing.{is_countable};
 
@@ -52,6 +52,8 @@ impl ClassFile {
         ensures methods { All (IsClassMethod self.now.pool) self.now.methods }
         // No two of them have equal name and descriptor.
         ensures methods_apart { AreApart self.now.pool self.now.methods }
+        // Each number fits its field, and the names of the attributes that it is written with are there.
+        ensures numbers { NumbersFit self.now }
     {
         &self.parts
     }

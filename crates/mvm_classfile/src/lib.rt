@@ -21,6 +21,3 @@ pub use laws::reading_law;
 pub use mvm_layout::{ClassFault, Code, Item, Member, Parts, Row};
 pub use read::{read_class, read_uncounted};
 pub use write::write_class;
-
-#[cfg(test)]
-mod tests;

@@ -8,7 +8,13 @@
 ghost use Rattle.std.specs.Prelude.{◌<◌, ◌^◌, length};
 ghost use Rattle.mvm_inspect.specs.Finding.{Finds};
 
+#[cfg(test)]
+mod entry_rows;
 mod inspect;
+#[cfg(test)]
+mod interface_rows;
+#[cfg(test)]
+mod text_rows;
 #[cfg(test)]
 mod worked_rows;
 

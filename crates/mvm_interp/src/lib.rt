@@ -19,6 +19,3 @@ pub use block::{Block, Uncaught};
 pub use ending::{End, LimitKind, Stepped};
 pub use output::OUTPUT_LIMIT;
 pub use task::{OneTask, START_ATTEMPTS, STEP_LIMIT};
-
-#[cfg(test)]
-mod tests;

@@ -25,6 +25,3 @@ pub use info::{AttributeInfo, ClassInfo, CodeInfo, MemberInfo};
 pub use laws::layout_law;
 pub use parts::{Code, Item, Member, Parts, Row};
 pub use read::{read_code, read_layout};
-
-#[cfg(test)]
-mod tests;

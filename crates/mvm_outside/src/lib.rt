@@ -28,6 +28,3 @@ pub use memory_store::{MemoryStore, NeverStore};
 pub use real::{FolderStore, ReadSource, WriteSink};
 pub use traits::{Failed, Gate, MOST_FILE_BYTES, NoGate, Sink, Source, Store, StoreFault};
 pub use whole::{ReadRefusal, read_all, write_all};
-
-#[cfg(test)]
-mod tests;

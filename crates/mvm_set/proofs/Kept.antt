@@ -1,5 +1,5 @@
 -- Lists in which those of one name are one: what is found first is found first where each stands once.
-use Rattle.std.proofs.Common.{◌≡◌, ℕ, Bool, true, false, cond, List, [], ◌∷◌, ◌++◌, Option, Some, None, refl, sym, ap, subst, ◌∙◌}
+use Rattle.std.proofs.Common.{◌≡◌, ℕ, Bool, true, false, cond, List, [], ◌∷◌, ◌++◌, Option, Some, None, refl, sym, ap, ◌∙◌}
 use Rattle.std.specs.Prelude.{not, ◌||◌, option_and_then}
 use Rattle.std.specs.List.{filter, list_any}
 use Rattle.mvm_shape.specs.Members.{same_text}

@@ -3,6 +3,7 @@ pub mod Counted
 pub mod Once
 pub mod Seen
 pub mod Sources
+pub mod Numbered
 pub mod Over
 pub mod Kept
 pub mod Joined

@@ -1,5 +1,5 @@
 -- A map from names, whose keys are lists of units in memory.
-use Rattle.std.proofs.Common.{◌≡◌, ℕ, Bool, true, false, cond, List, Option, refl, sym, ap, subst, ◌∙◌}
+use Rattle.std.proofs.Common.{◌≡◌, ℕ, Bool, true, false, cond, List, Option, refl, sym, ap, ◌∙◌}
 use Rattle.std.specs.BTreeMap as tree
 use Rattle.std.specs.BTreeMap.{BTreeMap}
 use Rattle.std.specs.declared.cmp.Ordering.{Ordering}
@@ -19,7 +19,7 @@ false_of true h = absurd (h refl)
 false_of false h = refl
 
 module _ {K : Type 0} (units : K → List ℕ) where
-  abbrev key_cmp : K → K → Ordering
+  abbrev pub key_cmp : K → K → Ordering
   key_cmp one other = slice_cmp nat_cmp (units one) (units other)
 
   abbrev is_for : List ℕ → K → Bool

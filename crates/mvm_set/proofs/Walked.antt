@@ -1,20 +1,20 @@
 -- What is found in the lists of a class is what the rules over its family find.
 use Rattle.std.proofs.Common.{◌≡◌, ℕ, ◌+◌, Bool, true, false, cond, List, [], ◌∷◌, ◌++◌, map, length, Option, Some, None, ◌⊎◌, inl, inr, refl, sym, ap, ◌∙◌, append_assoc, length-append}
-use Rattle.std.specs.Prelude.{◌||◌, not, slice_get, option_and_then}
+use Rattle.std.specs.Prelude.{◌||◌, not, slice_get}
 use Rattle.std.specs.List.{list_any, filter}
 use Rattle.std.proofs.lemmas.List.Folds.{list_any-append}
 use Rattle.mvm_layout.specs.declared.parts.Parts.{Parts}
 use Rattle.mvm_layout.specs.Pool.{is_text}
 use Rattle.mvm_shape.specs.Members.{same_text}
-use Rattle.mvm_set.specs.Names.{own_name, is_called}
+use Rattle.mvm_set.specs.Names.{is_called}
 use Rattle.mvm_set.specs.Once.{without, once, AreKept, or_else, first}
 use Rattle.mvm_set.specs.Family.{Family, family, Families, none, more, file, name, Among, later, over_first, across_first, Inherits, from_class, from_interface, visited, all_visited, walk, order, orders, checked, fault_in, fault_of}
 use Rattle.mvm_set.specs.Family as tree
 use Rattle.mvm_set.specs.ClassOf.{own_walk, class_of}
-use Rattle.mvm_set.specs.Fields.{first_in, first_of, Place, place_in, declared_by, or_found, found_from, found_in, placed, told}
+use Rattle.mvm_set.specs.Fields.{first_in, first_of, place_in, declared_by, or_found, found_from, found_in, placed, told}
 use Rattle.mvm_set.specs.Access.{is_subclass}
 use Rattle.mvm_set.proofs.Once.{same_names}
-use Rattle.mvm_set.proofs.Kept.{or_else-assoc, first-append, kept-append, first-once}
+use Rattle.mvm_set.proofs.Kept.{first-append, kept-append, first-once}
 
 -- ---- the orders are those of the rules
 

@@ -1,5 +1,5 @@
 -- Who may see what (JVM Specification 5.4.4).
-use Rattle.std.specs.Prelude.{ℕ, List, Bool, not, ◌&&◌, ◌||◌, Option}
+use Rattle.std.specs.Prelude.{ℕ, List, Bool, not, ◌&&◌, ◌||◌}
 use Rattle.std.specs.List.{list_any}
 use Rattle.mvm_layout.specs.Flags.{has_flag}
 use Rattle.mvm_layout.specs.declared.flags.TheConstants as flag

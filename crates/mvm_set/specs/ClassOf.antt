@@ -1,7 +1,6 @@
 -- What stands for a family in memory: lists of files, of which each stands with its own order of field resolution, so that
 -- nothing has to be walked again.
 use Rattle.std.specs.Prelude.{ℕ, List, [], ◌∷◌, map, Option}
-use Rattle.mvm_layout.specs.declared.parts.Parts.{Parts}
 use Rattle.mvm_set.specs.Family.{Family, Families, none, more, file, line, walk, checked}
 use Rattle.mvm_set.specs.Names.{own_name}
 use Rattle.mvm_set.specs.declared.own.OwnWalk.{OwnWalk}

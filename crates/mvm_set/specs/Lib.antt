@@ -6,5 +6,7 @@ pub mod Over
 pub mod Seen
 pub mod Set
 pub mod Members
+pub mod Index
+pub mod IndexOf
 pub mod Fields
 pub mod Access

@@ -217,5 +217,6 @@ pub(crate) fn own_of(
     let mut walk = List::new(alloc);
     walk.push(file.share()?)?;
     append_files(&mut walk, others)?;
-    Ok(Shared::new(alloc, Own::new(OwnWalk { file, walk }))?)
+    let own = Own::new(alloc, OwnWalk { file, walk })?;
+    Ok(Shared::new(alloc, own)?)
 }

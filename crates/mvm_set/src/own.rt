@@ -1,10 +1,11 @@
-ghost use Rattle.std.specs.Prelude.{◌≡◌};
+ghost use Rattle.std.specs.Prelude.{◌≡◌, IfOk};
 ghost use Rattle.mvm_set.specs.Members.{field_at, method_at, flags_at};
 
-use crate::members::member_at;
+use crate::index::Index;
 use crate::shared::Shared;
-use mvm_base::{List, Name};
+use mvm_base::{List, Name, OutOfMemory};
 use mvm_classfile::ClassFile;
+use std::alloc::Global;
 use std::marker::Model;
 
 /// A file with the walk of its own class.
@@ -17,25 +18,30 @@ pub struct OwnWalk {
     pub walk: List<Shared<ClassFile>>,
 }
 
-/// A file with the walk of its own class, made for look-ups in it.
+/// A file with the walk of its own class, and an index of the file's members.
 #[derive(Debug, Drop)]
 pub struct Own {
     own: OwnWalk,
+    index: Index,
 }
 
 impl Model for Own {
     ghost use Rattle.mvm_set.specs.declared.own.OwnWalk.{OwnWalk as OwnWalkOf};
+    ghost use Rattle.mvm_set.specs.IndexOf.{IsIndexOf};
 
     ghost Value = { OwnWalkOf };
 
     ghost view = { λ o. o.own };
+
+    ghost invariant = { λ o. IsIndexOf o.own.file o.index };
 }
 
 impl Own {
-    pub(crate) fn new(own: OwnWalk) -> Own
-        ensures { result ≡ own }
+    pub(crate) fn new(alloc: Global, own: OwnWalk) -> Result<Own, OutOfMemory>
+        ensures { IfOk result (λ made. made ≡ own) }
     {
-        Own { own }
+        let index = Index::new(alloc, own.file.get())?;
+        Ok(Own { own, index })
     }
 
     /// The file, as one owner of it.
@@ -64,8 +70,7 @@ impl Own {
     pub fn field_at(&self, name: &Name, desc: &Name) -> Option<u16>
         ensures { result ≡ field_at name.now desc.now self.now.file }
     {
-        let parts = self.file().parts();
-        member_at(&parts.pool, name, desc, &parts.fields)
+        self.index.field(name, desc)
     }
 
     /// The place of the file's method of this name and descriptor (JVM Specification 4.6).
@@ -73,8 +78,7 @@ impl Own {
     pub fn method_at(&self, name: &Name, desc: &Name) -> Option<u16>
         ensures { result ≡ method_at name.now desc.now self.now.file }
     {
-        let parts = self.file().parts();
-        member_at(&parts.pool, name, desc, &parts.methods)
+        self.index.method(name, desc)
     }
 
     /// The access flags of the file's method of this name and descriptor (JVM Specification 4.6), where it has one.

@@ -17,8 +17,6 @@ mod laws;
 mod links;
 mod member_lists;
 mod members;
-#[cfg(test)]
-mod tests;
 mod text_facts;
 mod text_numbers;
 

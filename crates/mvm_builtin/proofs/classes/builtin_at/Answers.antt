@@ -1,8 +1,7 @@
-use Rattle.std.proofs.Common.{ap, ◌∙◌, subst, sym}
-use Rattle.std.specs.Prelude.{IfOk, IfSome, Option}
-use Rattle.std.specs.Option.{option_map}
+use Rattle.std.proofs.Common.{subst, sym}
+use Rattle.std.specs.Prelude.{IfSome, Option}
 use Rattle.mvm_builtin.specs.Table.{Row, rows}
-use Rattle.mvm_builtin.specs.Classes.{made, builtin_at, IsReread}
+use Rattle.mvm_builtin.specs.Classes.{builtin_at, IsReread}
 use Rattle.mvm_builtin.proofs.Computed.{all_reread}
 use Rattle.mvm_builtin.proofs.Found.{found_at}
 use Rattle.mvm_builtin.proofs.classes.builtin_at.Goals as goal

@@ -1,8 +1,8 @@
-use Rattle.std.proofs.Common.{List, Option, Some, ◌+◌, ◌-◌, ◌≡◌, length, get_or, take, drop, sym, ap, ◌∙◌, arith}
+use Rattle.std.proofs.Common.{List, Option, Some, ◌+◌, ◌-◌, ◌≡◌, length, take, drop, sym, ap, ◌∙◌, arith}
 use Rattle.std.specs.Borrow.{Bor}
 use Rattle.std.proofs.lemmas.List.{take_all, length-drop}
 use Rattle.mvm_builtin.specs.declared.table.Sort.{Sort}
-use Rattle.mvm_builtin.specs.Table.{Line, Row, line_of, lines_of, until_class}
+use Rattle.mvm_builtin.specs.Table.{Line, Row, lines_of, until_class}
 use Rattle.mvm_builtin.proofs.Indexed.{row_at_place}
 use Rattle.mvm_builtin.proofs.rows.row_from.Goals as goal
 

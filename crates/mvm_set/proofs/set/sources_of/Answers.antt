@@ -2,7 +2,6 @@ use Rattle.std.proofs.Common.{◌≡◌, ℕ, ◌-◌, ◌∷◌, List, Some, dr
 use Rattle.std.specs.Str.{bytes_eq}
 use Rattle.std.proofs.lemmas.Grind.{common_steps}
 use Rattle.mvm_set.specs.Set.{source_of, look}
-use Rattle.mvm_set.specs.declared.set.SetRow.{SetRow}
 use Rattle.mvm_set.proofs.Sources.{source_added}
 use Rattle.mvm_set.proofs.set.sources_of.Goals as goal
 

@@ -1,5 +1,6 @@
 use Rattle.std.proofs.Common.{subst}
 use Rattle.mvm_classfile.specs.Reading.{IsClassFile}
+use Rattle.mvm_classfile.proofs.Fitting.{numbers_fit}
 use Rattle.mvm_classfile.proofs.Made.{countable}
 use Rattle.mvm_classfile.proofs.Kept.{linked_kept, classes_kept, fields_kept, fields_apart, methods_kept, methods_apart}
 use Rattle.mvm_classfile.proofs.class_file.ClassFile.parts.Goals as goal
@@ -24,3 +25,6 @@ returns-clause-methods c = methods_kept c.args.self.now (subst IsClassFile c.sel
 
 pub returns-clause-methods_apart : goal.returns-clause-methods_apart
 returns-clause-methods_apart c = methods_apart c.args.self.now (subst IsClassFile c.self.view_is c.self.invariant)
+
+pub returns-clause-numbers : goal.returns-clause-numbers
+returns-clause-numbers c = numbers_fit c.args.self.now (subst IsClassFile c.self.view_is c.self.invariant)

@@ -1,4 +1,4 @@
-use Rattle.std.proofs.Common.{◌≡◌, ap, ◌∙◌, arith}
+use Rattle.std.proofs.Common.{arith}
 use Rattle.std.proofs.lemmas.Grind.{common_steps}
 use Rattle.mvm_set.proofs.Over.{class_made, class_kept}
 use Rattle.mvm_set.proofs.class.Class.over.Goals as goal

@@ -1,0 +1,45 @@
+use crate::inspect::{Finding, inspect};
+use mvm_base::List;
+use mvm_layout::{ClassFault, Item, read_layout};
+use std::test::Fail;
+
+/// A class with an entry of every tag in its pool; a long has the indices 4 and 5, a double 6 and 7.
+const ENTRIES: [u8; 94] = [
+    0xca, 0xfe, 0xba, 0xbe, 0x00, 0x00, 0x00, 0x34, 0x00, 0x11, 0x01, 0x00, 0x01, 0x41, 0x03, 0xff,
+    0xff, 0xff, 0xfe, 0x04, 0x3f, 0x80, 0x00, 0x00, 0x05, 0xff, 0xff, 0xff, 0xff, 0xff, 0xff, 0xff,
+    0xff, 0x06, 0x3f, 0xf0, 0x00, 0x00, 0x00, 0x00, 0x00, 0x00, 0x07, 0x00, 0x01, 0x08, 0x00, 0x01,
+    0x09, 0x00, 0x08, 0x00, 0x0d, 0x0a, 0x00, 0x08, 0x00, 0x0d, 0x0b, 0x00, 0x08, 0x00, 0x0d, 0x0c,
+    0x00, 0x01, 0x00, 0x01, 0x0f, 0x01, 0x00, 0x0a, 0x10, 0x00, 0x01, 0x12, 0x00, 0x02, 0x00, 0x0d,
+    0x00, 0x21, 0x00, 0x08, 0x00, 0x00, 0x00, 0x00, 0x00, 0x00, 0x00, 0x00, 0x00, 0x00,
+];
+
+fn stands(pool: &List<Item>, place: usize, item: &Item) -> bool {
+    match pool.get(place) {
+        Some(found) => found == item,
+        None => false,
+    }
+}
+
+#[test]
+fn reads_every_entry(rt: HostRuntime) -> Result<(), Fail> {
+    let info = read_layout(rt.alloc(), &ENTRIES)?;
+    assert_eq!(rt; info.pool.len(), 16);
+    assert!(rt; stands(&info.pool, 1, &Item::Integer(-2)));
+    assert!(rt; stands(&info.pool, 2, &Item::Float(0x3f80_0000)));
+    assert!(rt; stands(&info.pool, 3, &Item::Long(-1)));
+    assert!(rt; stands(&info.pool, 4, &Item::Upper));
+    assert!(rt; stands(&info.pool, 5, &Item::Double(0x3ff0_0000_0000_0000)));
+    assert!(rt; stands(&info.pool, 15, &Item::InvokeDynamic(2, 13)));
+    Ok(())
+}
+
+#[test]
+fn a_wide_entry_at_the_last_index_is_a_fault(rt: HostRuntime) -> Result<(), Fail> {
+    for (count, index) in [(5, 4), (7, 6)] {
+        let mut changed = ENTRIES;
+        changed[9] = count;
+        let fault = ClassFault::Pool(index);
+        assert_eq!(rt; inspect(rt.alloc(), &changed), Finding::Class(fault));
+    }
+    Ok(())
+}

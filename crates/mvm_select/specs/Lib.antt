@@ -1,0 +1,9 @@
+pub mod Names
+pub mod Methods
+pub mod Families
+pub mod Overriding
+pub mod MostSpecific
+pub mod Resolution
+pub mod Selection
+pub mod Told
+pub mod Meaning

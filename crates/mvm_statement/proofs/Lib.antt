@@ -1,0 +1,12 @@
+pub mod Tests
+pub mod TokensBack
+pub mod NumbersBack
+pub mod OperandsBack
+pub mod LinesBack
+pub mod WordsBack
+pub mod StatementsBack
+pub mod TextsBack
+pub mod DigitsIn
+pub mod Defaults
+pub mod Utf8
+pub mod Written

@@ -1,0 +1,9 @@
+pub mod Tokens
+pub mod Numbers
+pub mod Operands
+pub mod Lines
+pub mod Words
+pub mod Values
+pub mod Instructions
+pub mod Statements
+pub mod Reading
