@@ -6,3 +6,7 @@ pub mod NameMap
 pub mod Work
 pub mod Begun
 pub mod Link
+pub mod Holders
+pub mod Slots
+pub mod Members
+pub mod Resolve

@@ -50,7 +50,7 @@ fn read_as<L: Ledger>(
 /// The unit with which the name of an array class begins, `[` (JVM Specification 4.4.1).
 const BRACKET: u16 = 91;
 
-fn is_array_name(name: &Name) -> bool
+pub(crate) fn is_array_name(name: &Name) -> bool
     ensures { result ≡ is_array_name name.now }
 {
     match name.units().first() {
