@@ -1,16 +1,16 @@
 -- A class that was loaded loads again on any path of which no name stands in what the class inherits from.
-use Rattle.std.proofs.Common.{◌≡◌, ℕ, zero, suc, ◌+◌, ◌≤◌, ◌<◌, Bool, true, false, List, [], ◌∷◌, ◌++◌, Option, Some, None, Result, Ok, Err, refl, sym, ap, subst, ◌∙◌, arith}
+use Rattle.std.proofs.Common.{◌≡◌, ℕ, zero, suc, ◌≤◌, Bool, true, false, List, [], ◌∷◌, ◌++◌, Option, Some, None, Result, Ok, Err, refl, sym, ap, subst, ◌∙◌, arith}
 use Rattle.std.specs.Prelude.{◌||◌, not}
 use Rattle.mvm_base.specs.Answers.{◌>>=◌}
 use Rattle.mvm_base.specs.Rules.{expect}
 use Rattle.mvm_layout.specs.declared.parts.Parts.{Parts}
 use Rattle.mvm_set.specs.Names.{own_name, superclass, superinterfaces}
-use Rattle.mvm_set.specs.Family.{Family, family, Families, none, more, file, name, visited, all_visited}
+use Rattle.mvm_set.specs.Family.{Family, family, Families, file, name, visited, all_visited}
 use Rattle.mvm_table.specs.Load.{Find, is_in, may_stand, super_loaded, all_loaded, over, loaded_by, load_on}
 use Rattle.mvm_table.specs.declared.fault.LoadFault.{LoadFault}
 use Rattle.mvm_table.specs.declared.fault.LoadFault.TheVariants.{Circular}
 use Rattle.mvm_table.proofs.Weights.{is_in-longer}
-use Rattle.mvm_table.proofs.Bound.{bound, super_of, all_more, over_parts}
+use Rattle.mvm_table.proofs.Bound.{super_of, all_more, over_parts}
 use Rattle.mvm_table.proofs.Paths.{loaded_parts}
 
 abbrev stopped : Result (Unit {0}) LoadFault

@@ -1,9 +1,9 @@
 -- Steps of which the first fault is the answer, taken apart.
-use Rattle.std.proofs.Common.{◌≡◌, ℕ, Bool, true, false, List, [], ◌∷◌, Result, Ok, Err, refl, ap, ◌∙◌}
+use Rattle.std.proofs.Common.{◌≡◌, ℕ, Bool, true, false, List, ◌∷◌, Result, Ok, Err, refl, ap, ◌∙◌}
 use Rattle.mvm_base.specs.Answers.{◌>>=◌}
 use Rattle.mvm_layout.specs.declared.parts.Parts.{Parts}
 use Rattle.mvm_set.specs.Names.{superclass, superinterfaces}
-use Rattle.mvm_set.specs.Family.{Family, family, Families, none, more, file}
+use Rattle.mvm_set.specs.Family.{Family, family, Families, more, file}
 use Rattle.mvm_table.specs.Load.{may_stand, super_loaded, all_loaded, over}
 use Rattle.mvm_table.specs.declared.fault.LoadFault.{LoadFault}
 

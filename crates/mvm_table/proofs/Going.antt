@@ -1,5 +1,5 @@
 -- Each step of a load: what stands, stands, and there is less to do.
-use Rattle.std.proofs.Common.{◌≡◌, ◌≢◌, ℕ, zero, suc, ◌+◌, ◌-◌, ◌<◌, ◌≤◌, Bool, true, false, cond, List, [], ◌∷◌, ◌++◌, length, Option, Some, None, Result, Ok, Err, refl, sym, ap, subst, ◌∙◌, arith}
+use Rattle.std.proofs.Common.{◌≡◌, ℕ, zero, suc, ◌+◌, ◌-◌, ◌<◌, Bool, true, false, cond, List, [], ◌∷◌, ◌++◌, length, Option, Some, None, Result, Ok, Err, refl, sym, ap, subst, ◌∙◌, arith}
 use Rattle.std.specs.Prelude.{slice_get, is_some, ◌||◌}
 use Rattle.std.specs.Option.{option_map}
 use Rattle.std.specs.Str.{bytes_eq}
@@ -14,7 +14,7 @@ use Rattle.mvm_table.specs.Files.{File}
 use Rattle.mvm_table.specs.Load.{is_in, may_stand, found, known}
 use Rattle.mvm_table.specs.NameMap.{Rows, row, Puts}
 use Rattle.mvm_table.specs.Work.{unpassed}
-use Rattle.mvm_table.specs.Begun.{Load, class_loaded, on_path, super_at, is_interface_place, left_of, listed, taken, taken_at, begun_of, name_of, names_of, WaitsFor, Stands, AllStand, IsRooted, is_begun, is_met, AreLoaded, IsPath, IsLoading, steps_left, all_left, steps_of, weight, to_do}
+use Rattle.mvm_table.specs.Begun.{on_path, super_at, is_interface_place, left_of, listed, taken, taken_at, begun_of, names_of, Stands, AllStand, IsRooted, is_begun, is_met, IsLoading, steps_left, all_left, steps_of, weight, to_do}
 use Rattle.mvm_table.specs.declared.begun.Begun.{Begun}
 use Rattle.mvm_table.specs.declared.fault.LoadFault.{LoadFault}
 use Rattle.mvm_table.specs.declared.fault.LoadFault.TheVariants.{Circular}
@@ -22,7 +22,7 @@ use Rattle.mvm_table.proofs.Known.{known_name}
 use Rattle.mvm_table.proofs.Weights.{fewer, one_fewer, is_in-longer}
 use Rattle.mvm_table.proofs.Lineages.{lost, circular}
 use Rattle.mvm_table.proofs.Supers.{Given, taken_left, ended_left}
-use Rattle.mvm_table.proofs.Standing.{nil, last_stands, without_last, with_last, with_next, new_stands, names_last, last_fails, super_fault, serves, alone}
+use Rattle.mvm_table.proofs.Standing.{last_stands, without_last, with_last, with_next, new_stands, names_last, last_fails, super_fault, serves, alone}
 
 -- ---- names and rows
 

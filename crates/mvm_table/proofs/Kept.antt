@@ -1,9 +1,9 @@
 -- Each class in the tree of a class that was loaded is the one that loading gives for its name.
-use Rattle.std.proofs.Common.{◌≡◌, ℕ, zero, suc, ◌<◌, Bool, true, false, List, [], ◌∷◌, ◌++◌, length, Option, Some, None, Result, Ok, Err, refl, sym, ap, subst, ◌∙◌}
+use Rattle.std.proofs.Common.{◌≡◌, ℕ, zero, suc, ◌<◌, Bool, true, false, List, [], ◌∷◌, ◌++◌, length, Option, Some, Result, Ok, sym, ap, subst, ◌∙◌}
 use Rattle.std.specs.Prelude.{option_and_then}
 use Rattle.mvm_layout.specs.declared.parts.Parts.{Parts}
 use Rattle.mvm_set.specs.Names.{own_name, superclass, superinterfaces}
-use Rattle.mvm_set.specs.Family.{Family, family, Families, none, more, name, visited, all_visited}
+use Rattle.mvm_set.specs.Family.{Family, family, Families, none, name, visited, all_visited}
 use Rattle.mvm_set.specs.Once.{AreKept}
 use Rattle.mvm_table.specs.Load.{Find, is_in, all_loaded, over, load_on}
 use Rattle.mvm_table.specs.Loads.{kept_by, ok_of}

@@ -1,19 +1,19 @@
 -- Loading, over the classes that stand for families.
-use Rattle.std.proofs.Common.{◌≡◌, ℕ, zero, suc, ◌+◌, ◌<◌, Bool, true, false, List, [], ◌∷◌, ◌++◌, length, Option, Some, None, Result, Ok, Err, refl, sym, ap, subst, ◌∙◌, arith}
+use Rattle.std.proofs.Common.{◌≡◌, ℕ, ◌+◌, ◌<◌, Bool, true, false, List, [], ◌∷◌, ◌++◌, length, Result, Ok, Err, refl, sym, ap, ◌∙◌, arith}
 use Rattle.std.specs.Prelude.{not}
 use Rattle.mvm_base.specs.Answers.{◌>>=◌}
 use Rattle.mvm_base.specs.Rules.{expect}
 use Rattle.mvm_layout.specs.declared.parts.Parts.{Parts}
 use Rattle.mvm_set.specs.Names.{superclass, superinterfaces}
-use Rattle.mvm_set.specs.Family.{Family, family, Families, none, more, file}
+use Rattle.mvm_set.specs.Family.{Family, family, Families, more, file}
 use Rattle.mvm_set.specs.ClassOf.{class_of, classes_of}
 use Rattle.mvm_set.specs.Over.{class_over}
 use Rattle.mvm_set.proofs.Joined.{class_law}
 use Rattle.mvm_set.specs.declared.class.Lineage.{Lineage}
 use Rattle.mvm_table.specs.Files.{File}
-use Rattle.mvm_table.specs.Load.{Find, is_in, may_stand, super_loaded, all_loaded, over, loaded_by, load_on, found, known}
+use Rattle.mvm_table.specs.Load.{is_in, may_stand, super_loaded, all_loaded, over, loaded_by, load_on, found, known}
 use Rattle.mvm_table.specs.Loads.{classed}
-use Rattle.mvm_table.specs.Begun.{Load, class_loaded, classes_loaded, class_by, on_path}
+use Rattle.mvm_table.specs.Begun.{class_loaded, classes_loaded, class_by, on_path}
 use Rattle.mvm_table.specs.declared.fault.LoadFault.{LoadFault}
 use Rattle.mvm_table.specs.declared.fault.LoadFault.TheVariants.{Circular}
 use Rattle.mvm_table.proofs.Known.{known_name}

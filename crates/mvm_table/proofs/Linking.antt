@@ -1,22 +1,21 @@
 -- What is checked in a class's order of verification is what linking checks.
-use Rattle.std.proofs.Common.{◌≡◌, ◌≢◌, ◌<◌, ◌≤◌, ℕ, suc, zero, ◌+◌, List, [], ◌∷◌, drop, length, get_or, Option, Some, None, Result, Ok, Err, refl, sym, ap, subst, ◌∙◌, arith}
-use Rattle.std.proofs.lemmas.List.{drop_more, drop_all}
-use Rattle.mvm_base.specs.Answers.{◌>>=◌, Fails, AnswersUnless}
+use Rattle.std.proofs.Common.{◌≡◌, ◌≢◌, ◌<◌, ℕ, ◌+◌, List, drop, length, get_or, Some, Result, Err, sym, ap, ◌∙◌, arith}
+use Rattle.std.proofs.lemmas.List.{drop_more}
+use Rattle.mvm_base.specs.Answers.{◌>>=◌, Fails}
 use Rattle.mvm_layout.specs.declared.parts.Parts.{Parts}
 use Rattle.mvm_check.specs.Check.{check_of}
 use Rattle.mvm_check.specs.declared.fault.CheckFault.{CheckFault}
 use Rattle.mvm_check.specs.declared.fault.CheckFault.TheVariants as check_fault
 use Rattle.mvm_set.specs.Names.{own_name}
-use Rattle.mvm_set.specs.Family.{Family, file, fault_in}
-use Rattle.mvm_set.specs.ClassOf.{class_of}
+use Rattle.mvm_set.specs.Family.{Family, file}
 use Rattle.mvm_set.specs.Once.{first, or_else}
 use Rattle.mvm_set.specs.declared.class.Lineage.{Lineage}
 use Rattle.mvm_set.specs.declared.own.OwnWalk.{OwnWalk}
 use Rattle.mvm_set.proofs.Walked.{checked_law}
 use Rattle.mvm_table.specs.Files.{File, files_in}
-use Rattle.mvm_table.specs.Load.{found, known, load, load_on, load_with}
+use Rattle.mvm_table.specs.Load.{found, known, load, load_with}
 use Rattle.mvm_table.specs.Link.{fault_told, code_fault, or_sound, linked_family, linked, linked_files}
-use Rattle.mvm_table.specs.Loads.{class_in, kept_by, IsLoaded}
+use Rattle.mvm_table.specs.Loads.{kept_by, IsLoaded}
 use Rattle.mvm_table.specs.declared.fault.LoadFault.{LoadFault}
 use Rattle.mvm_table.specs.declared.fault.LoadFault.TheVariants.{Check}
 use Rattle.mvm_table.proofs.Known.{known_name, file_named}

@@ -1,5 +1,5 @@
 -- What a map by names has after an entry was put into it.
-use Rattle.std.proofs.Common.{◌≡◌, ℕ, Bool, true, false, cond, List, [], ◌∷◌, Option, Some, None, refl, sym, ap, ◌∙◌}
+use Rattle.std.proofs.Common.{◌≡◌, ℕ, Bool, true, false, cond, List, [], ◌∷◌, Option, Some, refl, sym, ap, ◌∙◌}
 use Rattle.std.specs.Prelude.{map}
 use Rattle.std.specs.BTreeMap.{BTreeMap, get_by, insert_entry, is_at}
 use Rattle.std.specs.Cmp.Lexicographic.{slice_cmp}
@@ -11,7 +11,7 @@ use Rattle.std.specs.declared.cmp.Ordering.TheVariants.{Less, Equal, Greater}
 use Rattle.std.specs.declared.vec.Vec.{Vec}
 use Rattle.std.proofs.lemmas.Map.Text.{is_eq-slice_cmp}
 use Rattle.std.proofs.lemmas.Slice.Eq.{bytes_eq-Decides}
-use Rattle.mvm_table.specs.NameMap.{Rows, row, row_of, rows_of, Puts}
+use Rattle.mvm_table.specs.NameMap.{row, row_of, rows_of, Puts}
 
 found_in : {X Z : Type 0} (name : List ℕ) (es : List (Vec ℕ Z × X)) → lookup (is_at (λ (k : Vec ℕ Z). slice_cmp nat_cmp name k.items)) es ≡ row name (map row_of es)
 found_in {X} {Z} name [] = refl

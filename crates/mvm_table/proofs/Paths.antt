@@ -5,7 +5,7 @@ use Rattle.mvm_base.specs.Answers.{◌>>=◌}
 use Rattle.mvm_base.specs.Rules.{expect}
 use Rattle.mvm_layout.specs.declared.parts.Parts.{Parts}
 use Rattle.mvm_set.specs.Names.{superclass, superinterfaces}
-use Rattle.mvm_set.specs.Family.{Family, family, Families, more, file}
+use Rattle.mvm_set.specs.Family.{Family, Families, file}
 use Rattle.mvm_table.specs.Load.{Find, is_in, may_stand, super_loaded, all_loaded, over, loaded_by, load_on}
 use Rattle.mvm_table.specs.declared.fault.LoadFault.{LoadFault}
 use Rattle.mvm_table.specs.declared.fault.LoadFault.TheVariants.{Circular}

@@ -1,5 +1,5 @@
 -- A class that was loaded does not stand in the tree of one of its supers: its tree is greater than theirs.
-use Rattle.std.proofs.Common.{◌≡◌, ℕ, zero, suc, ◌+◌, ◌<◌, ◌≤◌, Bool, true, false, List, [], ◌∷◌, ◌++◌, length, Option, Some, None, Result, Ok, Err, refl, sym, ap, subst, ◌∙◌, arith, ◌⊎◌, inl, inr}
+use Rattle.std.proofs.Common.{◌≡◌, ℕ, suc, ◌+◌, ◌<◌, ◌≤◌, Bool, true, false, List, [], ◌∷◌, ◌++◌, length, Option, Some, None, Result, Ok, Err, refl, sym, ap, subst, ◌∙◌, arith, ◌⊎◌, inl, inr}
 use Rattle.std.specs.Prelude.{◌||◌, option_and_then}
 use Rattle.std.specs.Str.{bytes_eq}
 use Rattle.std.proofs.lemmas.Slice.Eq.{bytes_eq-Decides}
@@ -7,7 +7,7 @@ use Rattle.mvm_layout.specs.declared.parts.Parts.{Parts}
 use Rattle.mvm_set.specs.Names.{own_name, superclass, superinterfaces}
 use Rattle.mvm_set.specs.Family.{Family, family, Families, none, more, name, visited, all_visited}
 use Rattle.mvm_set.specs.Once.{AreKept}
-use Rattle.mvm_table.specs.Load.{Find, is_in, all_loaded, over, load_on}
+use Rattle.mvm_table.specs.Load.{Find, is_in, all_loaded, load_on}
 use Rattle.mvm_table.specs.Loads.{kept_by, ok_of}
 use Rattle.mvm_table.specs.declared.fault.LoadFault.{LoadFault}
 use Rattle.mvm_table.proofs.Bound.{super_of, all_more, over_parts}

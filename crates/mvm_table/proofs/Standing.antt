@@ -1,5 +1,5 @@
 -- The classes that are begun, each for the sake of the one before.
-use Rattle.std.proofs.Common.{◌≡◌, ◌≢◌, ℕ, zero, suc, ◌+◌, ◌<◌, ◌≤◌, Bool, true, false, List, [], ◌∷◌, ◌++◌, length, append_assoc, Option, Some, None, Result, Ok, Err, refl, sym, ap, subst, ◌∙◌, arith}
+use Rattle.std.proofs.Common.{◌≡◌, ℕ, ◌+◌, ◌<◌, Bool, false, List, [], ◌∷◌, ◌++◌, length, append_assoc, Some, Result, Ok, Err, refl, sym, ap, subst, ◌∙◌, arith}
 use Rattle.mvm_base.specs.Answers.{◌>>=◌}
 use Rattle.mvm_layout.specs.declared.parts.Parts.{Parts}
 use Rattle.mvm_set.specs.Family.{Family}
@@ -8,7 +8,7 @@ use Rattle.mvm_set.specs.declared.class.Lineage.{Lineage}
 use Rattle.mvm_table.specs.Files.{File}
 use Rattle.mvm_table.specs.Load.{is_in, may_stand, load_on, found, known}
 use Rattle.mvm_table.specs.Loads.{classed}
-use Rattle.mvm_table.specs.Begun.{Load, class_loaded, on_path, super_at, is_interface_place, left_of, name_of, names_of, begun_of, WaitsFor, Stands, AllStand, IsRooted}
+use Rattle.mvm_table.specs.Begun.{Load, class_loaded, on_path, super_at, is_interface_place, names_of, begun_of, WaitsFor, Stands, AllStand, IsRooted}
 use Rattle.mvm_table.specs.declared.begun.Begun.{Begun}
 use Rattle.mvm_table.specs.declared.fault.LoadFault.{LoadFault}
 use Rattle.mvm_table.proofs.Known.{known_name, file_named}

@@ -1,5 +1,5 @@
 -- How a load begins, and what its end says.
-use Rattle.std.proofs.Common.{◌≡◌, ◌<◌, ℕ, Bool, true, false, cond, List, [], ◌∷◌, ◌++◌, Option, Some, None, Result, Ok, Err, refl, sym, ap, subst, ◌∙◌, ◌+◌, length}
+use Rattle.std.proofs.Common.{◌≡◌, ◌<◌, ℕ, Bool, true, false, cond, List, [], ◌∷◌, Option, Some, None, Result, Ok, Err, refl, sym, ap, subst, ◌∙◌, ◌+◌, length}
 use Rattle.std.specs.Prelude.{IfOk, IfSome, ◌||◌}
 use Rattle.std.specs.Borrow.{Bor}
 use Rattle.std.specs.Option.{option_copied}
@@ -7,15 +7,14 @@ use Rattle.std.specs.Str.{bytes_eq}
 use Rattle.mvm_base.specs.Answers.{◌>>=◌, Fails, AnswersUnless}
 use Rattle.mvm_layout.specs.declared.parts.Parts.{Parts}
 use Rattle.mvm_set.specs.Names.{own_name}
-use Rattle.mvm_set.specs.Family.{Family}
 use Rattle.mvm_set.specs.ClassOf.{class_of}
 use Rattle.mvm_set.specs.declared.class.Lineage.{Lineage}
 use Rattle.mvm_table.specs.Files.{File, files_in}
-use Rattle.mvm_table.specs.Load.{is_in, found, known, load, load_on, load_with}
-use Rattle.mvm_table.specs.Loads.{classed, class_in, IsLoaded}
+use Rattle.mvm_table.specs.Load.{is_in, found, known, load, load_with}
+use Rattle.mvm_table.specs.Loads.{class_in, IsLoaded}
 use Rattle.mvm_table.specs.Contents.{Contents, AreShelved, shelf_of}
 use Rattle.mvm_table.specs.NameMap.{Rows, row, Puts}
-use Rattle.mvm_table.specs.Begun.{on_path, begun_of, names_of, is_begun, AreLoaded, IsPath, IsLoading, Goes}
+use Rattle.mvm_table.specs.Begun.{on_path, begun_of, names_of, is_begun, IsLoading, Goes}
 use Rattle.mvm_table.specs.declared.begun.Begun.{Begun}
 use Rattle.mvm_table.specs.declared.fault.LoadFault.{LoadFault}
 use Rattle.mvm_table.specs.declared.fault.LoadFault.TheVariants.{OutOfMemory}

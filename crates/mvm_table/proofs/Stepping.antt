@@ -1,6 +1,6 @@
 -- What each way through a step of a load answers.
 use Rattle.std.proofs.Common.{◌≡◌, ◌<◌, ℕ, List, [], ◌∷◌, ◌++◌, Option, Some, None, Result, Ok, Err, refl, sym, ap, subst, ◌∙◌}
-use Rattle.mvm_base.specs.Answers.{◌>>=◌, Fails}
+use Rattle.mvm_base.specs.Answers.{Fails}
 use Rattle.mvm_layout.specs.declared.parts.Parts.{Parts}
 use Rattle.mvm_set.specs.Over.{class_over}
 use Rattle.mvm_set.specs.declared.class.Lineage.{Lineage}

@@ -1,5 +1,5 @@
 -- Of the load without recursion: the classes that are begun, each over its supers so far, and what is left to do of each.
-use Rattle.std.specs.Prelude.{◌≡◌, ◌<◌, ℕ, zero, suc, ◌+◌, ◌-◌, List, [], ◌∷◌, ◌++◌, drop, map, length, slice_get, Bool, true, false, not, is_some, Option, Some, None, Result, Ok, Err, ◌⊎◌}
+use Rattle.std.specs.Prelude.{◌≡◌, ◌<◌, ℕ, zero, suc, ◌+◌, ◌-◌, List, [], ◌∷◌, ◌++◌, drop, map, length, slice_get, Bool, true, false, is_some, Option, Some, None, Result, Ok, Err}
 use Rattle.std.specs.Option.{option_map}
 use Rattle.mvm_base.specs.Answers.{◌>>=◌, Fails}
 use Rattle.mvm_layout.specs.Pool.{class_name}
@@ -8,7 +8,7 @@ use Rattle.mvm_set.specs.Names.{names_at, superclass, superinterfaces}
 use Rattle.mvm_set.specs.Over.{class_over}
 use Rattle.mvm_set.specs.declared.class.Lineage.{Lineage}
 use Rattle.mvm_table.specs.Files.{File}
-use Rattle.mvm_table.specs.Load.{Find, is_in, may_stand, found, known, load_on}
+use Rattle.mvm_table.specs.Load.{is_in, may_stand, found, known, load_on}
 use Rattle.mvm_table.specs.Loads.{classed}
 use Rattle.mvm_table.specs.NameMap.{Rows, row, Puts}
 use Rattle.mvm_table.specs.Work.{unpassed}

@@ -1,4 +1,4 @@
-use Rattle.std.proofs.Common.{◌≡◌, ℕ, List, ap, sym, ◌∙◌}
+use Rattle.std.proofs.Common.{ℕ, List, ap, ◌∙◌}
 use Rattle.mvm_table.specs.NameMap.{row, rows_of}
 use Rattle.mvm_table.proofs.Maps.{get_is}
 use Rattle.mvm_table.proofs.name_map.NameMap.get.Goals as goal

@@ -1,4 +1,4 @@
-use Rattle.std.proofs.Common.{◌≡◌, ℕ, List, ap, sym, subst, ◌∙◌}
+use Rattle.std.proofs.Common.{subst, ◌∙◌}
 use Rattle.mvm_table.specs.NameMap.{Puts, rows_of}
 use Rattle.mvm_table.proofs.Maps.{put_is}
 use Rattle.mvm_table.proofs.name_map.NameMap.put.Goals as goal

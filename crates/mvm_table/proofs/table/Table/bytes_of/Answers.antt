@@ -1,4 +1,4 @@
-use Rattle.std.proofs.Common.{◌≡◌, ap, sym, ◌∙◌}
+use Rattle.std.proofs.Common.{ap, sym, ◌∙◌}
 use Rattle.mvm_table.specs.Contents.{Contents}
 use Rattle.mvm_table.specs.Files.{files_in, bytes_of}
 use Rattle.mvm_table.proofs.Sources.{bytes_in_table}

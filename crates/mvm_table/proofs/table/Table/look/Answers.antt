@@ -1,5 +1,4 @@
 use Rattle.std.proofs.Common.{◌∙◌, ap, sym}
-use Rattle.mvm_table.specs.Files.{files_in}
 use Rattle.mvm_table.proofs.Starting.{no_path, ok_class}
 use Rattle.mvm_table.proofs.table.Table.look.Goals as goal
 

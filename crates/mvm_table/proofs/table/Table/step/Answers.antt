@@ -1,4 +1,4 @@
-use Rattle.std.proofs.Common.{subst, ◌∙◌, ap, sym, Some, ◌≡◌, ℕ, List, Option}
+use Rattle.std.proofs.Common.{subst, ◌∙◌, ap, sym, Some, ℕ, List, Option}
 use Rattle.std.specs.Borrow.{Bor}
 use Rattle.std.specs.Option.{option_copied}
 use Rattle.mvm_table.specs.Files.{files_in}
