@@ -38,6 +38,8 @@ class Bytes:
 
 def decode(data):
     """The UTF-16 units of modified UTF-8, or None."""
+    if data.isascii() and 0 not in data:
+        return data.decode("ascii")
     units, place = [], 0
     while place < len(data):
         rest = [byte & 0x3F if byte & 0xC0 == 0x80 else None for byte in data[place + 1:place + 3]]

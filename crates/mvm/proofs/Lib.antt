@@ -1,3 +1,5 @@
 pub mod Characters
 pub mod Faults
+pub mod CommandNames
+pub mod Written
 pub mod Complete

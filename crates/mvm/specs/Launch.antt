@@ -1,27 +1,26 @@
--- What an answer of `launch` says, in the order in which a call goes: its words, its source, the class file, the machine, its sink.
-use Rattle.std.specs.Prelude.{◌≡◌, ◌≢◌, ℕ, ◌<◌, ◌≤◌, ◌⊎◌, List, [], ◌∷◌, length, take, Option, Some, IfSome, ⊤, codes}
+-- What an answer of `launch` says, in the order in which a call goes: its words, its source, the command, its sink.
+use Rattle.std.specs.Prelude.{◌≡◌, ℕ, ◌<◌, ◌≤◌, ◌⊎◌, List, [], ◌∷◌, length, take, Option, Some, IfSome, ⊤, codes}
 use Rattle.std.specs.Io.KnownBytes.{Appends, IsAtEnd}
 use Rattle.mvm_outside.specs.Causes.{Rose}
 use Rattle.mvm_outside.specs.declared.traits.TheConstants.{MOST_FILE_BYTES}
-use Rattle.mvm_layout.specs.declared.fault.ClassFault.{ClassFault}
-use Rattle.mvm_layout.specs.declared.fault.ClassFault.TheVariants as class_fault
-use Rattle.mvm_layout.specs.declared.parts.Parts.{Parts}
-use Rattle.mvm_classfile.specs.Reading.{Reads, fault_of}
-use Rattle.mvm_first_form.specs.File.{IsFirstForm}
-use Rattle.mvm_first_form.specs.declared.parts.FirstForm.{FirstForm}
-use Rattle.mvm_interp.specs.Run.{RunsTo}
-use Rattle.mvm_interp.specs.declared.block.Block.{Block}
-use Rattle.mvm.specs.Report.{report_text}
-use Rattle.mvm.specs.declared.outcome.Outcome.{Outcome}
+use Rattle.mvm.specs.Commands.{Accepts, Makes, Refuses, IsNamed}
 use Rattle.mvm.specs.declared.outcome.What.{What}
-use Rattle.mvm.specs.declared.outcome.What.TheVariants.{Ran, Refused, OutOfMemory}
-use Rattle.mvm.specs.declared.refusal.Refusal.TheVariants.{Usage, ReadFault, InputTooLong, Class, WriteFault}
+use Rattle.mvm.specs.declared.outcome.What.TheVariants.{Ran, Made, Refused, OutOfMemory}
+use Rattle.mvm.specs.declared.refusal.Refusal.{Refusal}
+use Rattle.mvm.specs.declared.refusal.Refusal.TheVariants.{Usage, ReadFault, InputTooLong, Class, Assembly, WriteFault}
+use Rattle.mvm.specs.declared.words.Command.{Command}
+use Rattle.mvm.specs.declared.words.Command.TheVariants.{Run, Assemble, Disassemble}
 
 -- ---- the words
 
--- the one word that is a command
-abbrev pub AskForRun : List (List ℕ) → Type 0
-AskForRun words = words ≡ codes "run" ∷ []
+abbrev pub name_of : Command → List ℕ
+name_of Run = codes "run"
+name_of Assemble = codes "asm"
+name_of Disassemble = codes "dump"
+
+-- the words are the name of the command, and nothing else
+abbrev pub AsksFor : List (List ℕ) → Command → Type 0
+AsksFor words command = words ≡ name_of command ∷ []
 
 -- ---- the source
 
@@ -39,7 +38,7 @@ reading left faults old new = record { left_before = left old; left_after = left
 abbrev pub SourceFailed : Reading → Type 0
 SourceFailed source = Rose source.faults_before source.faults_after
 
--- the source had more bytes left than a class file may have
+-- the source had more bytes left than an input may have
 abbrev pub IsTooLong : Reading → Type 0
 IsTooLong source = IfSome source.left_before (λ left. MOST_FILE_BYTES < length left)
 
@@ -49,51 +48,20 @@ pub record HasRead (source : Reading) (bytes : List ℕ) : Type 0 where
   pub ended : IsAtEnd source.left_after
   pub within : length bytes ≤ MOST_FILE_BYTES
 
--- ---- the class file
+-- ---- the command
 
--- the bytes read as the parts of a class file, and have no fault
-pub record IsClassFile (bytes : List ℕ) : Type 0 where
-  pub parts : Parts
-  pub reads : Reads bytes parts
-  pub faultless : (fault : ClassFault) → fault_of bytes ≢ Some fault
-
--- this is the first fault of the bytes, which read as no class file
-pub record IsFaulty (bytes : List ℕ) (fault : ClassFault) : Type 0 where
-  pub told : fault_of bytes ≡ Some fault
-  pub unread : (parts : Parts) → ¬ Reads bytes parts
-
--- the bytes are a class file, and not one of the first form
-pub record IsOtherForm (bytes : List ℕ) : Type 0 where
-  pub class_file : IsClassFile bytes
-  pub other : (form : FirstForm) → ¬ IsFirstForm bytes form
-
--- the bytes have this fault, or they are a class file that this stage can't run
-abbrev pub IsRefused : List ℕ → ClassFault → Type 0
-IsRefused bytes fault = IsFaulty bytes fault ⊎ ((fault ≡ class_fault.Unsupported 0) × IsOtherForm bytes)
-
--- the source was read to its end, and its bytes are refused with this fault
-pub record HasFault (source : Reading) (fault : ClassFault) : Type 0 where
+-- the source was read to its end, and of its bytes the command makes this answer and this output
+pub record HasMade (command : Command) (source : Reading) (what : What) (output : List ℕ) : Type 0 where
   pub bytes : List ℕ
   pub read : HasRead source bytes
-  pub refused : IsRefused bytes fault
-  pub named : fault ≢ class_fault.OutOfMemory
+  pub made : Makes command bytes what output
 
--- ---- the machine
-
--- the bytes are a class file of the first form, and this is what the machine of its class leaves
-pub record RunsBytes (bytes : List ℕ) (outcome : Outcome) : Type 0 where
-  pub class_file : IsClassFile bytes
-  pub form : FirstForm
-  pub spelled : IsFirstForm bytes form
-  pub block : Block
-  pub run : RunsTo form block
-  pub only : outcome.isolates ≡ block ∷ []
-
--- the source was read to its end, and this is what a run of its bytes leaves
-pub record HasRun (source : Reading) (outcome : Outcome) : Type 0 where
+-- the source was read to its end, and the command refuses its bytes, for this reason
+pub record HasRefused (command : Command) (source : Reading) (refusal : Refusal) : Type 0 where
   pub bytes : List ℕ
   pub read : HasRead source bytes
-  pub run : RunsBytes bytes outcome
+  pub refused : Refuses command bytes refusal
+  pub named : IsNamed refusal
 
 -- ---- the sink
 
@@ -117,48 +85,71 @@ Takes sink text = Appends sink.taken_before sink.taken_after text
 abbrev pub SinkFailed : Writing → Type 0
 SinkFailed sink = Rose sink.faults_before sink.faults_after ⊎ Rose sink.idle_before sink.idle_after
 
--- a run was made, and so many bytes of its report were taken before the sink failed
-pub record HasCutReport (source : Reading) (sink : Writing) (count : ℕ) : Type 0 where
-  pub outcome : Outcome
-  pub run : HasRun source outcome
-  pub within : count ≤ length (report_text outcome)
-  pub taken : Takes sink (take count (report_text outcome))
+-- the command has this answer, and the sink took its output
+pub record HasWritten (command : Command) (source : Reading) (sink : Writing) (what : What) : Type 0 where
+  pub output : List ℕ
+  pub made : HasMade command source what output
+  pub taken : Takes sink output
+
+-- the command had an answer, and so many bytes of its output were taken before the sink failed
+pub record HasCut (command : Command) (source : Reading) (sink : Writing) (count : ℕ) : Type 0 where
+  pub what : What
+  pub output : List ℕ
+  pub made : HasMade command source what output
+  pub short : count < length output
+  pub taken : Takes sink (take count output)
   pub cause : SinkFailed sink
 
 -- ---- the answer
 
--- what each answer says
-abbrev pub Answers : List (List ℕ) → Reading → Writing → What → Type 0
-Answers words source sink (Ran outcome) = AskForRun words × HasRun source outcome × Takes sink (report_text outcome)
-Answers words source sink (Refused Usage) = ¬ AskForRun words
-Answers words source sink (Refused ReadFault) = AskForRun words × SourceFailed source
-Answers words source sink (Refused InputTooLong) = AskForRun words × IsTooLong source
-Answers words source sink (Refused (Class fault)) = AskForRun words × HasFault source fault
-Answers words source sink (Refused (WriteFault count)) = AskForRun words × HasCutReport source sink count
-Answers words source sink OutOfMemory = AskForRun words
+-- what each answer to a command says
+abbrev pub AnswersTo : Command → Reading → Writing → What → Type 0
+AnswersTo command source sink (Ran outcome) = HasWritten command source sink (Ran outcome)
+AnswersTo command source sink Made = HasWritten command source sink Made
+AnswersTo command source sink (Refused Usage) = ⊥
+AnswersTo command source sink (Refused ReadFault) = SourceFailed source
+AnswersTo command source sink (Refused InputTooLong) = IsTooLong source
+AnswersTo command source sink (Refused (Class fault)) = HasRefused command source (Class fault)
+AnswersTo command source sink (Refused (Assembly fault)) = HasRefused command source (Assembly fault)
+AnswersTo command source sink (Refused (WriteFault count)) = HasCut command source sink count
+AnswersTo command source sink OutOfMemory = ⊤
 
--- the sink is as it was, unless there was a report to write
-abbrev pub KeepsSink : {K : Type 0} → What → K → K → Type 0
-KeepsSink (Ran outcome) old new = ⊤
-KeepsSink (Refused (WriteFault count)) old new = ⊤
-KeepsSink _ old new = new ≡ old
+-- the words ask for a command, and this is an answer to it
+pub record IsAnswered (words : List (List ℕ)) (source : Reading) (sink : Writing) (what : What) : Type 0 where
+  pub command : Command
+  pub asked : AsksFor words command
+  pub says : AnswersTo command source sink what
+
+-- the words ask for no command, which a usage refusal tells
+pub record IsUsage (words : List (List ℕ)) (what : What) : Type 0 where
+  pub unasked : (command : Command) → ¬ AsksFor words command
+  pub told : what ≡ Refused Usage
+
+abbrev pub Answers : List (List ℕ) → Reading → Writing → What → Type 0
+Answers words source sink what = IsAnswered words source sink what ⊎ IsUsage words what
+
+-- there was an output to write
+abbrev pub HasOutput : What → Type 0
+HasOutput (Ran outcome) = ⊤
+HasOutput Made = ⊤
+HasOutput (Refused (WriteFault count)) = ⊤
+HasOutput _ = ⊥
 
 -- ---- completeness
 
--- Nothing stands in the way of a run: the words ask for one, the source tells its bytes, which are a class file of the first form, and
--- neither the source nor the sink failed.
-pub record CanRun (words : List (List ℕ)) (source : Reading) (sink : Writing) : Type 0 where
-  pub asked : AskForRun words
+-- Nothing stands in the way of a command: the words ask for it, the source tells its bytes, which are what the command asks for, and neither
+-- the source nor the sink failed.
+pub record CanAnswer (words : List (List ℕ)) (source : Reading) (sink : Writing) : Type 0 where
+  pub command : Command
+  pub asked : AsksFor words command
   pub bytes : List ℕ
   pub told : source.left_before ≡ Some bytes
   pub within : length bytes ≤ MOST_FILE_BYTES
-  pub class_file : IsClassFile bytes
-  pub form : FirstForm
-  pub spelled : IsFirstForm bytes form
+  pub accepted : Accepts command bytes
   pub source_held : ¬ SourceFailed source
   pub sink_held : ¬ SinkFailed sink
 
--- the answer is a run, or memory ran out
+-- the answer is a run or an output that was made, or memory ran out
 abbrev pub IsNoRefusal : What → Type 0
 IsNoRefusal (Refused refusal) = ⊥
 IsNoRefusal _ = ⊤

@@ -2,4 +2,5 @@ pub mod Texts
 pub mod Status
 pub mod Report
 pub mod Refusals
+pub mod Commands
 pub mod Launch

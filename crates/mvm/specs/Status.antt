@@ -4,9 +4,9 @@ use Rattle.std.specs.List.{list_all}
 use Rattle.std.specs.Ordering.{int_eq}
 use Rattle.mvm.specs.declared.outcome.Outcome.{Outcome}
 use Rattle.mvm.specs.declared.outcome.What.{What}
-use Rattle.mvm.specs.declared.outcome.What.TheVariants.{Ran, Refused, OutOfMemory}
+use Rattle.mvm.specs.declared.outcome.What.TheVariants.{Ran, Made, Refused, OutOfMemory}
 use Rattle.mvm.specs.declared.refusal.Refusal.{Refusal}
-use Rattle.mvm.specs.declared.refusal.Refusal.TheVariants.{Usage, ReadFault, InputTooLong, Class, WriteFault}
+use Rattle.mvm.specs.declared.refusal.Refusal.TheVariants.{Usage, ReadFault, InputTooLong, Class, Assembly, WriteFault}
 use Rattle.mvm_interp.specs.declared.ending.End.{End}
 use Rattle.mvm_interp.specs.declared.ending.End.TheVariants.{Exit, Limit}
 
@@ -23,9 +23,11 @@ refusal_status Usage = 2
 refusal_status ReadFault = 3
 refusal_status InputTooLong = 4
 refusal_status (Class fault) = 4
+refusal_status (Assembly fault) = 4
 refusal_status (WriteFault count) = 5
 
 abbrev pub status_of : What → ℕ
 status_of (Ran outcome) = run_status outcome
+status_of Made = 0
 status_of (Refused refusal) = refusal_status refusal
 status_of OutOfMemory = 6

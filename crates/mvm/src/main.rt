@@ -1,11 +1,15 @@
-//! Program: `mvm`, which runs Java applications. At this stage it runs one class file that it reads from standard input.
+//! Program: `mvm`, which runs Java applications. At this stage it runs one class file that it reads from standard input, or
+//! writes it as text, or makes it from its text.
 //!
 //! The program hands [`launch::launch`] its words, standard input, the current folder and standard output, prints what a
 //! refusal reads as on standard error, and ends with the status. What `launch` promises stands at it.
 #![tactic(auto)]
 
 #[cfg(test)]
+mod assembly_rows;
+#[cfg(test)]
 mod attempts;
+mod commands;
 #[cfg(test)]
 mod files;
 mod launch;
@@ -15,6 +19,7 @@ mod report;
 #[cfg(test)]
 mod tests;
 mod texts;
+mod words;
 #[cfg(test)]
 mod worked_rows;
 
@@ -56,7 +61,7 @@ fn words_of(rt: &HostRuntime) -> io::Result<Vec<String>> {
 /// Tells on standard error why there was no run to the end. Where that can't be told, the status tells it alone.
 fn complain(rt: &HostRuntime, what: &What) {
     let _ = match what {
-        What::Ran(_) => Ok(()),
+        What::Ran(_) | What::Made => Ok(()),
         What::Refused(refusal) => match refusal_text(rt.alloc(), refusal) {
             Ok(text) => eprintln!(rt; "{}", text.as_str()),
             Err(OutOfMemory) => eprintln!(rt; "out of memory"),

@@ -17,6 +17,8 @@ pub struct Outcome {
 pub enum What {
     /// The isolates were run to their ends, and the whole report was written.
     Ran(Outcome),
+    /// The output of `asm` or `dump` was made, and all of it was written.
+    Made,
     /// The call was refused. But for a write fault, nothing was written.
     Refused(Refusal),
     /// Memory was wanted and was not to be had. Nothing was written.
@@ -26,8 +28,8 @@ pub enum What {
 /// The answer of [`launch`](crate::launch::launch), with the status that the program ends with.
 #[derive(Debug, Drop)]
 pub struct Ended {
-    /// 0 where each isolate ended with exit 0, 1 where some isolate did not; 2 to 6 where there was no run to the
-    /// end.
+    /// 0 where each isolate ended with exit 0 or the output was made, 1 where some isolate did not; 2 to 6 where there was no
+    /// run to the end and no output.
     pub status: u8,
     pub what: What,
 }
@@ -50,6 +52,7 @@ fn status_of(what: &What) -> u8
 {
     match what {
         What::Ran(outcome) => run_status(outcome),
+        What::Made => 0,
         What::Refused(refusal) => refusal_status(refusal),
         What::OutOfMemory => 6,
     }
@@ -90,7 +93,7 @@ fn refusal_status(refusal: &Refusal) -> u8
     match refusal {
         Refusal::Usage => 2,
         Refusal::ReadFault => 3,
-        Refusal::InputTooLong | Refusal::Class(_) => 4,
+        Refusal::InputTooLong | Refusal::Class(_) | Refusal::Assembly(_) => 4,
         Refusal::WriteFault(_) => 5,
     }
 }

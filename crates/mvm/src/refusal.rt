@@ -1,9 +1,11 @@
-ghost use Rattle.std.specs.Prelude.{◌≡◌, ◌++◌, decimal, OnOk, IfOk};
-ghost use Rattle.mvm.specs.Refusals.{class_fault_text, refusal_text_of};
+ghost use Rattle.std.specs.Prelude.{◌≡◌, ◌++◌, codes, decimal, OnOk, IfOk};
+ghost use Rattle.mvm.specs.Refusals.{class_fault_text, line_fault_text, assembly_fault_text, refusal_text_of};
 
 use crate::texts::push_number;
+use mvm_asm::AsmFault;
 use mvm_base::{Line, OutOfMemory};
 use mvm_classfile::ClassFault;
+use mvm_statement::AsmKind;
 use std::alloc::{AllocError, Global};
 
 /// Why a call of [`launch`](crate::launch::launch) did not run to its end.
@@ -15,9 +17,11 @@ pub enum Refusal {
     ReadFault,
     /// The input has more than 1,048,576 bytes.
     InputTooLong,
-    /// The input is no class file, or is one that this machine can't run.
+    /// The input is no class file, or is one that `run` can't run.
     Class(ClassFault),
-    /// A write of the report failed, or took nothing, after so many bytes.
+    /// The input is not the text of a class file.
+    Assembly(AsmFault),
+    /// A write of the output failed, or took nothing, after so many bytes.
     WriteFault(u64),
 }
 
@@ -42,6 +46,7 @@ fn push_refusal(text: &mut Line, refusal: &Refusal) -> Result<(), AllocError>
         Refusal::ReadFault => text.push_str("read failed"),
         Refusal::InputTooLong => text.push_str("input too long"),
         Refusal::Class(fault) => push_class_fault(text, fault),
+        Refusal::Assembly(fault) => push_assembly_fault(text, fault),
         Refusal::WriteFault(count) => {
             text.push_str("write failed after ")?;
             push_number(text, *count)?;
@@ -50,7 +55,42 @@ fn push_refusal(text: &mut Line, refusal: &Refusal) -> Result<(), AllocError>
     }
 }
 
-// Adds why an input is no class file that is run.
+// Adds why an input is not the text of a class file.
+fn push_assembly_fault(text: &mut Line, fault: &AsmFault) -> Result<(), AllocError>
+    ensures ok { OnOk result (text.new ≡ text.old ++ assembly_fault_text fault.now) }
+{
+    match fault {
+        AsmFault::At(number, kind) => push_line_fault(text, *number, kind),
+        AsmFault::Refused(fault) => push_class_fault(text, fault),
+        AsmFault::OutOfMemory => text.push_str("out of memory"),
+    }
+}
+
+// Adds the number of a line, and what is wrong there.
+fn push_line_fault(text: &mut Line, number: u32, kind: &AsmKind) -> Result<(), AllocError>
+    ensures ok { OnOk result (text.new ≡ text.old ++ (codes "line " ++ decimal number ++ codes ": " ++ line_fault_text kind.now)) }
+{
+    text.push_str("line ")?;
+    push_number(text, u64::from(number))?;
+    text.push_str(": ")?;
+    text.push_str(line_fault_word(kind))
+}
+
+// What is wrong with a line, in a word.
+fn line_fault_word(kind: &AsmKind) -> &'static str
+    ensures { result.now ≡ line_fault_text kind.now }
+{
+    match kind {
+        AsmKind::Word => "word",
+        AsmKind::Operand => "operand",
+        AsmKind::Range => "range",
+        AsmKind::Label => "label",
+        AsmKind::Order => "order",
+        AsmKind::Pool => "pool",
+    }
+}
+
+// Adds why an input is no class file, or none that is run.
 fn push_class_fault(text: &mut Line, fault: &ClassFault) -> Result<(), AllocError>
     ensures ok { OnOk result (text.new ≡ text.old ++ class_fault_text fault.now) }
 {

@@ -32,7 +32,7 @@ const VERIFY_ERROR: &str =
     "isolate 0 Main\nend exit 1\nuncaught 0 java/lang/VerifyError\noutput 0\ndone 1\n";
 
 // How many bytes a sink takes in a call, where it takes all.
-const ALL: usize = usize::MAX;
+pub(crate) const ALL: usize = usize::MAX;
 
 // A place of the class and the byte that is put there; the number of the read that fails, how many bytes the sink takes in a
 // call, and the number of the write that fails; then the status, the refusal, and what the sink took.
@@ -114,29 +114,31 @@ fn numbers(alloc: Global, number: Option<u64>) -> Result<List<u64>, AllocError> 
 
 // What a call answers, with what the sink took.
 #[derive(Drop)]
-struct Answer {
-    status: u8,
-    refusal: Option<Refusal>,
-    taken: List<u8>,
+pub(crate) struct Answer {
+    pub status: u8,
+    pub refusal: Option<Refusal>,
+    pub taken: List<u8>,
 }
 
-// What `launch` answers to the word `run`.
-fn run<R: Threads + Sync>(
+// What `launch` answers to this word.
+fn answer_to<R: Threads + Sync>(
     rt: &R,
     alloc: Global,
+    word: &str,
     source: &mut MemorySource,
     sink: &mut MemorySink,
 ) -> Result<Ended, AllocError> {
-    let words = [String::from_str(alloc, "run")?];
+    let words = [String::from_str(alloc, word)?];
     let mut store = MemoryStore::new(List::new(alloc), List::new(alloc));
     Ok(launch(rt, alloc, &words, source, &mut store, sink, &NoGate))
 }
 
-// A call with the word `run` over these bytes, of whose reads and writes those of these numbers fail, into a sink that takes so
-// many bytes a call.
-fn call<R: Threads + Sync>(
+// A call with this word over these bytes, of whose reads and writes those of these numbers fail, into a sink that takes so many
+// bytes a call.
+pub(crate) fn call<R: Threads + Sync>(
     rt: &R,
     alloc: Global,
+    word: &str,
     bytes: List<u8>,
     failing_read: Option<u64>,
     most: usize,
@@ -144,7 +146,7 @@ fn call<R: Threads + Sync>(
 ) -> Result<Answer, AllocError> {
     let mut source = MemorySource::new(bytes, numbers(alloc, failing_read)?);
     let mut sink = MemorySink::new(alloc, most, numbers(alloc, failing_write)?);
-    let ended = run(rt, alloc, &mut source, &mut sink)?;
+    let ended = answer_to(rt, alloc, word, &mut source, &mut sink)?;
     Ok(Answer {
         status: ended.status,
         refusal: refusal_of(&ended),
@@ -155,7 +157,7 @@ fn call<R: Threads + Sync>(
 fn refusal_of(ended: &Ended) -> Option<Refusal> {
     match &ended.what {
         What::Refused(refusal) => Some(*refusal),
-        What::Ran(_) | What::OutOfMemory => None,
+        What::Ran(_) | What::Made | What::OutOfMemory => None,
     }
 }
 
@@ -163,7 +165,15 @@ fn refusal_of(ended: &Ended) -> Option<Refusal> {
 fn answers_the_rows(rt: HostRuntime) -> Result<(), Fail> {
     for (place, byte, failing_read, most, failing_write, status, refusal, taken) in ROWS {
         let bytes = main_with(rt.alloc(), place, byte)?;
-        let answer = call(&rt, rt.alloc(), bytes, failing_read, most, failing_write)?;
+        let answer = call(
+            &rt,
+            rt.alloc(),
+            "run",
+            bytes,
+            failing_read,
+            most,
+            failing_write,
+        )?;
         assert_eq!(rt; answer.taken.as_slice(), taken.as_bytes());
         assert_eq!(rt; answer.status, status);
         assert_eq!(rt; answer.refusal, refusal);
@@ -182,7 +192,7 @@ fn runs_into_the_limit_of_output(rt: HostRuntime) -> Result<(), Fail> {
     }
     endless.push_str("done 1\n")?;
     let iinc_by_0 = main_with(rt.alloc(), 169, 0x00)?;
-    let answer = call(&rt, rt.alloc(), iinc_by_0, None, ALL, None)?;
+    let answer = call(&rt, rt.alloc(), "run", iinc_by_0, None, ALL, None)?;
     assert_eq!(rt; answer.taken.as_slice(), endless.as_bytes());
     assert_eq!(rt; answer.status, 1);
     Ok(())
@@ -190,11 +200,19 @@ fn runs_into_the_limit_of_output(rt: HostRuntime) -> Result<(), Fail> {
 
 #[test]
 fn refuses_what_is_empty_or_too_long(rt: HostRuntime) -> Result<(), Fail> {
-    let empty = call(&rt, rt.alloc(), List::new(rt.alloc()), None, ALL, None)?;
+    let empty = call(
+        &rt,
+        rt.alloc(),
+        "run",
+        List::new(rt.alloc()),
+        None,
+        ALL,
+        None,
+    )?;
     let truncated = Refusal::Class(ClassFault::Truncated(0));
     assert_eq!(rt; empty.refusal, Some(truncated));
     let long = List::from_vec(vec![in rt.alloc(); 0; 1_048_577]?);
-    let long = call(&rt, rt.alloc(), long, None, ALL, None)?;
+    let long = call(&rt, rt.alloc(), "run", long, None, ALL, None)?;
     assert_eq!(rt; long.refusal, Some(Refusal::InputTooLong));
     Ok(())
 }

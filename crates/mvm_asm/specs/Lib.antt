@@ -1,10 +1,3 @@
-pub mod Order
-pub mod Range
-pub mod Constants
-pub mod Encoding
-pub mod Search
-pub mod Blocks
-pub mod Assembly
-pub mod LaidOut
-pub mod Disassembly
-pub mod Laws
+pub mod Turning
+pub mod Going
+pub mod Cutting

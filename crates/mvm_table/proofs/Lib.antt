@@ -18,3 +18,6 @@ mod Starting
 mod Stepping
 mod Linking
 mod Shelving
+mod BuiltIns
+mod Costs
+mod Above

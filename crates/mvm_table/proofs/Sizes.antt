@@ -1,5 +1,5 @@
 -- A class that was loaded does not stand in the tree of one of its supers: its tree is greater than theirs.
-use Rattle.std.proofs.Common.{◌≡◌, ℕ, suc, ◌+◌, ◌<◌, ◌≤◌, Bool, true, false, List, [], ◌∷◌, ◌++◌, length, Option, Some, None, Result, Ok, Err, refl, sym, ap, subst, ◌∙◌, arith, ◌⊎◌, inl, inr}
+use Rattle.std.proofs.Common.{◌≡◌, ℕ, suc, ◌+◌, ◌<◌, ◌≤◌, Bool, true, false, List, [], ◌∷◌, ◌++◌, length, Option, Some, None, Result, Ok, Err, refl, sym, ap, subst, ◌∙◌, arith, inl, inr}
 use Rattle.std.specs.Prelude.{◌||◌, option_and_then}
 use Rattle.std.specs.Str.{bytes_eq}
 use Rattle.std.proofs.lemmas.Slice.Eq.{bytes_eq-Decides}
@@ -8,6 +8,7 @@ use Rattle.mvm_set.specs.Names.{own_name, superclass, superinterfaces}
 use Rattle.mvm_set.specs.Family.{Family, family, Families, none, more, name, visited, all_visited}
 use Rattle.mvm_set.specs.Once.{AreKept}
 use Rattle.mvm_table.specs.Load.{Find, is_in, all_loaded, load_on}
+use Rattle.mvm_table.specs.Cost.{IsSuper}
 use Rattle.mvm_table.specs.Loads.{kept_by, ok_of}
 use Rattle.mvm_table.specs.declared.fault.LoadFault.{LoadFault}
 use Rattle.mvm_table.proofs.Bound.{super_of, all_more, over_parts}
@@ -45,10 +46,6 @@ mutual
 
 one_more : (n : ℕ) → n + 1 ≡ suc n
 one_more n = omega arith
-
--- a super of the class of this file
-abbrev pub IsSuper : Parts → List ℕ → Type 0
-IsSuper file super = (is_in (superclass file) super ≡ true) ⊎ (is_in (superinterfaces file) super ≡ true)
 
 member_size : (load : List ℕ → Result Family LoadFault) (sort : Bool) (called : List ℕ) (supers : List (List ℕ)) (ones : Families) (super : List ℕ) → all_loaded load sort called supers ≡ Ok ones → is_in supers super ≡ true
     → (one : Family) × (load super ≡ Ok one) × (size one ≤ sizes ones)

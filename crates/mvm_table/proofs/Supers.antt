@@ -13,10 +13,10 @@ use Rattle.mvm_set.specs.Names.{names_at, with_name}
 use Rattle.mvm_set.specs.Over.{class_over}
 use Rattle.mvm_set.specs.declared.class.Lineage.{Lineage}
 use Rattle.mvm_table.specs.Load.{is_in}
+use Rattle.mvm_table.specs.Cost.{IsSuper}
 use Rattle.mvm_table.specs.Begun.{Load, class_loaded, classes_loaded, class_by, super_at, is_interface_place, across_from, left_from, left_of, taken_at, taken, begun_of, listed}
 use Rattle.mvm_table.specs.declared.begun.Begun.{Begun}
 use Rattle.mvm_table.specs.declared.fault.LoadFault.{LoadFault}
-use Rattle.mvm_table.proofs.Sizes.{IsSuper}
 
 -- ---- what an index names
 

@@ -176,5 +176,5 @@ Known set files met name New = row name met ≡ None
 
 -- A class of which all supers are there is the answer where no other is begun; else it stands under its name for those that wait.
 abbrev pub Closes : List Begun → List ℕ → Lineage → Rows (Option Lineage) → Rows (Option Lineage) → Option Lineage → Type 0
-Closes begun name class old new (Some answer) = (begun ≡ []) × (answer ≡ class)
+Closes begun name class old new (Some answer) = (begun ≡ []) × (answer ≡ class) × (new ≡ old)
 Closes begun name class old new None = Puts old name (Some class) new

@@ -1,11 +1,11 @@
 -- What a table stands for.
 use Rattle.std.specs.Str.{bytes_eq}
 use Rattle.mvm_set.specs.Names.{own_name}
-use Rattle.std.specs.Prelude.{◌≡◌, ◌<◌, ◌^◌, ◌==◌, ◌&&◌, if◌then◌else◌, option_and_then, true, ℕ, List, [], length, slice_get, Bool, is_some, Option, Some, None, All, Ok}
+use Rattle.std.specs.Prelude.{◌≡◌, ◌<◌, ◌^◌, ◌==◌, ◌&&◌, if◌then◌else◌, option_and_then, true, ℕ, List, [], ◌∷◌, length, slice_get, slice_set, Bool, is_some, Option, Some, None, All, Ok}
 use Rattle.mvm_set.specs.declared.class.Lineage.{Lineage}
 use Rattle.mvm_table.specs.Files.{File}
 use Rattle.mvm_table.specs.Loads.{class_in}
-use Rattle.mvm_table.specs.NameMap.{Rows, row}
+use Rattle.mvm_table.specs.NameMap.{Rows, row, without}
 use Rattle.mvm_table.specs.declared.source.SourceRow.{SourceRow}
 
 -- of each set its files, and the classes that stand on its shelf
@@ -37,6 +37,23 @@ Stay old new = (set : ℕ) (name : List ℕ) → is_shelved old set name ≡ tru
 abbrev pub PutsOn : List (Rows Lineage) → ℕ → List ℕ → Lineage → List (Rows Lineage) → Type 0
 PutsOn old set name class new =
     (other_set : ℕ) (other : List ℕ) → row other (shelf_of other_set new) ≡ (if (other_set == set) && bytes_eq other name then Some class else row other (shelf_of other_set old))
+
+-- ---- classes taken off again
+
+abbrev pub off_name : Option (List ℕ) → ℕ → List (Rows Lineage) → List (Rows Lineage)
+off_name (Some name) set shelves = slice_set shelves set (without name (shelf_of set shelves))
+off_name None set shelves = shelves
+
+-- a class is taken off the shelf of its set
+abbrev pub off : Lineage → List (Rows Lineage) → List (Rows Lineage)
+off class shelves = off_name (own_name class.file) class.set shelves
+
+-- these are, the last of them first
+abbrev pub all_off : List Lineage → List (Rows Lineage) → List (Rows Lineage)
+all_off [] shelves = shelves
+all_off (class ∷ classes) shelves = off class (all_off classes shelves)
+
+-- ---- what every table keeps
 
 -- each class on a shelf is the one that loading gives for its name
 pub record AreShelved (files : List (List File)) (shelves : List (Rows Lineage)) : Type 0 where

@@ -10,3 +10,6 @@ pub mod Holders
 pub mod Slots
 pub mod Members
 pub mod Resolve
+pub mod Met
+pub mod Cost
+pub mod BuiltIn

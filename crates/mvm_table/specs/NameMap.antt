@@ -1,7 +1,7 @@
 -- Values by name.
 use Rattle.std.specs.Prelude.{◌≡◌, ℕ, List, map, Option, Some, if◌then◌else◌}
 use Rattle.std.specs.BTreeMap.{BTreeMap}
-use Rattle.std.specs.Map.{lookup}
+use Rattle.std.specs.Map.{lookup, remove_entry}
 use Rattle.std.specs.Str.{bytes_eq}
 use Rattle.std.specs.declared.vec.Vec.{Vec}
 
@@ -18,6 +18,10 @@ rows_of rows = map row_of rows.entries
 -- the value of a name, if there is one
 abbrev pub row : {X : Type 0} → List ℕ → Rows X → Option X
 row name rows = lookup (λ other. bytes_eq name other) rows
+
+-- the others of these values
+abbrev pub without : {X : Type 0} → List ℕ → Rows X → Rows X
+without name rows = remove_entry (λ other. bytes_eq name other) rows
 
 -- the one has this value under the name, and else what the other has
 abbrev pub Puts : {X : Type 0} → Rows X → List ℕ → X → Rows X → Type 0

@@ -1,6 +1,7 @@
-ghost use Rattle.std.specs.Prelude.{◌≡◌, ◌<◌, ◌^◌, length};
+ghost use Rattle.std.specs.Prelude.{◌≡◌, ◌<◌, ◌≤◌, ◌+◌, ◌^◌, length, OnOk};
 ghost use Rattle.mvm_base.specs.Answers.{AnswersUnless};
 ghost use Rattle.mvm_classfile.specs.Reading.{reading};
+ghost use Rattle.mvm_table.specs.Cost.{cost};
 ghost use Rattle.mvm_table.specs.Files.{files_in};
 ghost use Rattle.mvm_table.specs.Load.{is_array_name, called, found};
 ghost use Rattle.mvm_table.specs.Loads.{unread};
@@ -33,7 +34,9 @@ fn read_as<L: Ledger>(
     steps: &mut Steps<L>,
 ) -> Result<ClassFile, LoadFault>
     requires { length bytes.now < 2 ^ 32 }
-    ensures { AnswersUnless LoadFault.OutOfMemory result (called name.now (reading bytes.now)) }
+    ensures answer { AnswersUnless LoadFault.OutOfMemory result (called name.now (reading bytes.now)) }
+    ensures steps { OnOk result (steps.new ≡ steps.old + length bytes.now) }
+    ensures most { steps.new ≤ steps.old + length bytes.now }
 {
     match read_class(alloc, bytes, steps) {
         Ok(file) => {
@@ -68,7 +71,9 @@ impl Table {
         name: &Name,
         steps: &mut Steps<L>,
     ) -> Result<ClassFile, LoadFault>
-        ensures { AnswersUnless LoadFault.OutOfMemory result (found (files_in set self.now.files) name.now) }
+        ensures answer { AnswersUnless LoadFault.OutOfMemory result (found (files_in set self.now.files) name.now) }
+        ensures steps { OnOk result (steps.new ≡ steps.old + cost (files_in set self.now.files) name.now) }
+        ensures most { steps.new ≤ steps.old + cost (files_in set self.now.files) name.now }
     {
         if is_array_name(name) {
             return Err(LoadFault::NoClass);
@@ -92,7 +97,9 @@ impl Table {
         name: &Name,
         steps: &mut Steps<L>,
     ) -> Result<Shared<ClassFile>, LoadFault>
-        ensures { AnswersUnless LoadFault.OutOfMemory result (found (files_in set self.now.files) name.now) }
+        ensures answer { AnswersUnless LoadFault.OutOfMemory result (found (files_in set self.now.files) name.now) }
+        ensures steps { OnOk result (steps.new ≡ steps.old + cost (files_in set self.now.files) name.now) }
+        ensures most { steps.new ≤ steps.old + cost (files_in set self.now.files) name.now }
     {
         let file = self.find_file(set, name, steps)?;
         Ok(Shared::new(self.alloc, file)?)

@@ -1,7 +1,9 @@
-ghost use Rattle.std.specs.Prelude.{◌≡◌, ◌<◌, length, codes, IfOk};
+ghost use Rattle.std.specs.Prelude.{◌≡◌, ◌<◌, length, ◌+◌, ◌≤◌, true, Ok, codes, IfOk, OnOk};
 ghost use Rattle.mvm_base.specs.Answers.{AnswersUnless};
 ghost use Rattle.mvm_base.specs.Descriptor.{field_of};
 ghost use Rattle.mvm_set.specs.Names.{own_name};
+ghost use Rattle.mvm_table.specs.Contents.{is_shelved};
+ghost use Rattle.mvm_table.specs.Met.{of_base, of_shape, of_holder, AreOnShelf};
 ghost use Rattle.mvm_table.specs.Loads.{class_in, IsLoaded};
 ghost use Rattle.mvm_table.specs.Holders.{is_reachable_by, reached, class_resolved, or_no_class, element_resolved, array_resolved, holder_resolved};
 
@@ -41,7 +43,8 @@ fn reached(from: &Class, class: Shared<Class>) -> Result<Shared<Class>, LoadFaul
 
 /// The shape that the name of an array class spells (JVM Specification 4.4.1).
 fn shape_of(alloc: Global, name: &Name) -> Result<FieldShape, LoadFault>
-    ensures { AnswersUnless LoadFault.OutOfMemory result (or_no_class (field_of name.now)) }
+    ensures answer { AnswersUnless LoadFault.OutOfMemory result (or_no_class (field_of name.now)) }
+    ensures spelled { IfOk result (λ shape. field_of name.now ≡ Ok shape) }
 {
     if name.units().len() > MOST_UNITS {
         return Err(LoadFault::OutOfMemory);
@@ -65,6 +68,7 @@ impl Table {
         requires { from.now.set < length self.now.files }
         ensures answer { AnswersUnless LoadFault.OutOfMemory result (class_resolved (class_in self.now.files from.now.set) from.now name.now) }
         ensures loaded { IfOk result (λ class. IsLoaded self.now.files class) }
+        ensures shelf { is_shelved self.now from.now.set name.now ≡ true → OnOk result (steps.new ≡ steps.old + 1) }
     {
         match self.class(from.set(), name, steps) {
             Ok(class) => reached(from, class),
@@ -80,7 +84,8 @@ impl Table {
         steps: &mut Steps<L>,
     ) -> Result<(), LoadFault>
         requires { from.now.set < length self.now.files }
-        ensures { AnswersUnless LoadFault.OutOfMemory result (element_resolved (class_in self.now.files from.now.set) from.now base.now) }
+        ensures answer { AnswersUnless LoadFault.OutOfMemory result (element_resolved (class_in self.now.files from.now.set) from.now base.now) }
+        ensures shelf { AreOnShelf self.now from.now.set (of_base base.now) → OnOk result (steps.new ≤ steps.old + 1) }
     {
         match base {
             Base::Object(name) => match self.class_from(from, name, steps) {
@@ -100,7 +105,8 @@ impl Table {
         steps: &mut Steps<L>,
     ) -> Result<FieldShape, LoadFault>
         requires { from.now.set < length self.now.files }
-        ensures { AnswersUnless LoadFault.OutOfMemory result (array_resolved (class_in self.now.files from.now.set) from.now name.now) }
+        ensures answer { AnswersUnless LoadFault.OutOfMemory result (array_resolved (class_in self.now.files from.now.set) from.now name.now) }
+        ensures shelf { AreOnShelf self.now from.now.set (of_shape (field_of name.now)) → OnOk result (steps.new ≤ steps.old + 1) }
     {
         match shape_of(self.alloc, name) {
             Ok(shape) => match self.element_from(from, &shape.base, steps) {
@@ -116,13 +122,14 @@ impl Table {
         requires { set < length self.now.files }
         ensures answer { AnswersUnless LoadFault.OutOfMemory result (class_in self.now.files set (codes "java/lang/Object")) }
         ensures loaded { IfOk result (λ class. IsLoaded self.now.files class) }
+        ensures shelf { is_shelved self.now set (codes "java/lang/Object") ≡ true → OnOk result (steps.new ≡ steps.old + 1) }
     {
         let name = Name::from_ascii(self.alloc, "java/lang/Object")?;
         self.class(set, &name, steps)
     }
 
     /// The class that a member reference names, as a class resolves it; of an array class `java/lang/Object`.
-    #[tactic(auto, unfolding(crate::specs::Holders::holder_resolved))]
+    #[tactic(auto, unfolding(crate::specs::Holders::holder_resolved, crate::specs::Met::of_holder))]
     pub(crate) fn holder_from<L: Ledger>(
         &self,
         from: &Class,
@@ -132,6 +139,7 @@ impl Table {
         requires { from.now.set < length self.now.files }
         ensures answer { AnswersUnless LoadFault.OutOfMemory result (holder_resolved (class_in self.now.files from.now.set) from.now name.now) }
         ensures loaded { IfOk result (λ class. IsLoaded self.now.files class) }
+        ensures shelf { AreOnShelf self.now from.now.set (of_holder name.now) → OnOk result (steps.new ≤ steps.old + 2) }
     {
         if !is_array_name(name) {
             return self.class_from(from, name, steps);

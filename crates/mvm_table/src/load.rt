@@ -1,11 +1,12 @@
-ghost use Rattle.std.specs.Prelude.{◌≡◌, ◌++◌, ◌∷◌, [], ◌+◌, ◌<◌, true, length, None, IfOk, OnOk};
+ghost use Rattle.std.specs.Prelude.{◌≡◌, ◌++◌, ◌∷◌, [], ◌+◌, ◌<◌, ◌≤◌, ℕ, List as Items, true, false, length, None, IfOk, OnOk};
 ghost use Rattle.mvm_base.specs.Answers.{AnswersUnless};
 ghost use Rattle.mvm_set.specs.Over.{class_over};
 ghost use Rattle.mvm_table.specs.Files.{files_in};
-ghost use Rattle.mvm_table.specs.Load.{is_sort, may_stand, found};
+ghost use Rattle.mvm_table.specs.Load.{is_in, is_sort, may_stand, found};
 ghost use Rattle.mvm_table.specs.Loads.{class_in, IsLoaded};
 ghost use Rattle.mvm_table.specs.NameMap.{Puts};
 ghost use Rattle.mvm_table.specs.Contents.{is_shelved};
+ghost use Rattle.mvm_table.specs.Cost.{cost, costs, walk_names, HasSupers, AreAmong, left, Reads};
 ghost use Rattle.mvm_table.specs.Begun.{began, listed, is_interface_place, taken, AreLoaded, IsLoading, Goes, Known, Closes, to_do};
 
 use crate::begun::{Begun, Super, with_class};
@@ -115,7 +116,9 @@ impl Table {
         name: &Name,
         steps: &mut Steps<L>,
     ) -> Result<Begun, LoadFault>
-        ensures { AnswersUnless LoadFault.OutOfMemory result (began name.now (found (files_in set self.now.files) name.now)) }
+        ensures answer { AnswersUnless LoadFault.OutOfMemory result (began name.now (found (files_in set self.now.files) name.now)) }
+        ensures steps { OnOk result (steps.new ≡ steps.old + cost (files_in set self.now.files) name.now) }
+        ensures most { steps.new ≤ steps.old + cost (files_in set self.now.files) name.now }
     {
         let file = self.find(set, name, steps)?;
         Ok(Begun::new(self.alloc, name.copy()?, file))
@@ -172,7 +175,8 @@ impl Table {
         steps: &mut Steps<L>,
     ) -> Result<Option<Shared<Class>>, LoadFault>
         requires { IsLoading set (files_in set self.now.files) root.now (begun.old.items ++ top ∷ []) met.old }
-        ensures { Goes set (files_in set self.now.files) root.now (to_do (files_in set self.now.files) (begun.old.items ++ top ∷ []) met.old) result begun.new.items met.new }
+        ensures goes { Goes set (files_in set self.now.files) root.now (to_do (files_in set self.now.files) (begun.old.items ++ top ∷ []) met.old) result begun.new.items met.new }
+        ensures reads { (names : Items (Items ℕ)) → HasSupers (files_in set self.now.files) names → AreAmong met.old names → Reads (files_in set self.now.files) names result met.old steps.old met.new steps.new }
     {
         match top.next_super() {
             None => Ok(self.close(set, begun, met, top)?),
@@ -210,7 +214,8 @@ impl Table {
         steps: &mut Steps<L>,
     ) -> Result<Shared<Class>, LoadFault>
         requires { IsLoading set (files_in set self.now.files) root.now begun.items met }
-        ensures { AnswersUnless LoadFault.OutOfMemory result (class_in self.now.files set root.now) }
+        ensures answer { AnswersUnless LoadFault.OutOfMemory result (class_in self.now.files set root.now) }
+        ensures reads { (names : Items (Items ℕ)) → HasSupers (files_in set self.now.files) names → AreAmong met names → steps.new ≤ steps.old + left (files_in set self.now.files) met names }
     {
         while let Some(top) = begun.pop() {
             match self.step(set, root, &mut begun, &mut met, top, steps) {
@@ -229,7 +234,8 @@ impl Table {
         name: &Name,
         steps: &mut Steps<L>,
     ) -> Result<Shared<Class>, LoadFault>
-        ensures { AnswersUnless LoadFault.OutOfMemory result (class_in self.now.files set name.now) }
+        ensures answer { AnswersUnless LoadFault.OutOfMemory result (class_in self.now.files set name.now) }
+        ensures reads { (names : Items (Items ℕ)) → HasSupers (files_in set self.now.files) names → is_in names name.now ≡ true → steps.new ≤ steps.old + costs (files_in set self.now.files) names }
     {
         let new = match self.begin(set, name, steps) {
             Ok(new) => new,
@@ -259,6 +265,8 @@ impl Table {
         ensures loads { AnswersUnless LoadFault.OutOfMemory result (class_in self.now.files set name.now) }
         // It is as the calls want it that are handed a class.
         ensures loaded { IfOk result (λ class. IsLoaded self.now.files class) }
+        // Any other costs at most the bytes of its own file and of the files of all that it inherits from, each counted once.
+        ensures reads { is_shelved self.now set name.now ≡ false → IfOk result (λ class. steps.new ≤ steps.old + costs (files_in set self.now.files) (walk_names class)) }
         // A class that stands on the shelf costs one step.
         ensures shelf { is_shelved self.now set name.now ≡ true → OnOk result (steps.new ≡ steps.old + 1) }
     {

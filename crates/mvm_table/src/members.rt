@@ -1,8 +1,9 @@
-ghost use Rattle.std.specs.Prelude.{◌≡◌, ◌<◌, length, slice_get, IfOk, IfSome};
+ghost use Rattle.std.specs.Prelude.{◌≡◌, ◌<◌, length, slice_get, ◌+◌, ◌≤◌, IfOk, IfSome, OnOk};
 ghost use Rattle.std.specs.Option.{option_copied};
 ghost use Rattle.mvm_base.specs.Answers.{AnswersUnless};
 ghost use Rattle.mvm_set.specs.Members.{flags_of};
 ghost use Rattle.mvm_table.specs.Loads.{class_in, IsLoaded};
+ghost use Rattle.mvm_table.specs.Met.{of_holder, AreOnShelf};
 ghost use Rattle.mvm_table.specs.Members.{may_access, allowed, holder_of, field_allowed, method_allowed, slot_in, field_told, field_resolved, found_as, method_told, method_resolved};
 
 use crate::fault::LoadFault;
@@ -141,6 +142,7 @@ impl Table {
         requires { from.now.set < length self.now.files }
         ensures answer { AnswersUnless LoadFault.OutOfMemory result (method_resolved (class_in self.now.files from.now.set) of_interface from.now reference.now) }
         ensures loaded { IfOk result (λ at. IsLoaded self.now.files at.class) }
+        ensures shelf { AreOnShelf self.now from.now.set (of_holder reference.now.class) → OnOk result (steps.new ≤ steps.old + 2) }
     {
         let class = match self.holder_from(from, reference.class, steps) {
             Ok(class) => class,
@@ -163,6 +165,7 @@ impl Table {
         requires { from.now.set < length self.now.files }
         ensures answer { AnswersUnless LoadFault.OutOfMemory result (field_resolved (class_in self.now.files from.now.set) from.now reference.now) }
         ensures loaded { IfOk result (λ at. IsLoaded self.now.files at.class) }
+        ensures shelf { AreOnShelf self.now from.now.set (of_holder reference.now.class) → OnOk result (steps.new ≤ steps.old + 2) }
     {
         let class = match self.holder_from(from, reference.class, steps) {
             Ok(class) => class,

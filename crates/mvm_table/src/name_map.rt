@@ -1,6 +1,6 @@
-ghost use Rattle.std.specs.Prelude.{◌≡◌, [], OnOk, OnErr};
+ghost use Rattle.std.specs.Prelude.{◌≡◌, [], None, OnOk, OnErr};
 ghost use Rattle.std.specs.Option.{option_copied};
-ghost use Rattle.mvm_table.specs.NameMap.{row, Puts};
+ghost use Rattle.mvm_table.specs.NameMap.{row, without, Puts};
 
 use mvm_base::{Name, OutOfMemory};
 use std::alloc::Global;
@@ -43,10 +43,19 @@ impl<T: Drop> NameMap<T> {
     /// Puts a value under a name, in the place of another that stands there.
     pub(crate) fn put(&mut self, alloc: Global, name: &Name, value: T) -> Result<(), OutOfMemory>
         ensures ok { OnOk result (Puts self.old name.now value self.new) }
+        // Taking a new name out again gives what was there.
+        ensures back { OnOk result (row name.now self.old ≡ None → without name.now self.new ≡ self.old) }
         ensures err { OnErr result (self.new ≡ self.old) }
     {
         let key = Vec::from_slice(alloc, name.units())?;
         self.rows.insert(key, value)?;
         Ok(())
+    }
+
+    /// Takes the value of a name out, if there is one.
+    pub(crate) fn take_out(&mut self, name: &Name)
+        ensures { self.new ≡ without name.now self.old }
+    {
+        self.rows.remove(name.units());
     }
 }

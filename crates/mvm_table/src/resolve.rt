@@ -1,9 +1,10 @@
-ghost use Rattle.std.specs.Prelude.{◌≡◌, ◌<◌, length, List as Rows, Ok, IfOk};
+ghost use Rattle.std.specs.Prelude.{◌≡◌, ◌<◌, length, List as Rows, ◌+◌, ◌≤◌, Ok, IfOk, OnOk};
 ghost use Rattle.mvm_table.specs.Files.{File};
 ghost use Rattle.std.specs.Option.{option_copied};
 ghost use Rattle.mvm_base.specs.Answers.{AnswersUnless};
 ghost use Rattle.mvm_table.specs.Loads.{class_in, IsLoaded};
 ghost use Rattle.mvm_table.specs.Members.{reference_at};
+ghost use Rattle.mvm_table.specs.Met.{of_class, of_named, of_reference, met, AreOnShelf};
 ghost use Rattle.mvm_table.specs.Resolve.{named_resolved, class_entry, field_entry, method_entry, text_entry, resolve_with, resolve, HasLoaded};
 
 use crate::fault::LoadFault;
@@ -30,7 +31,7 @@ fn text_entry(units: Option<&Name>) -> Result<Resolved, LoadFault>
 
 impl Table {
     /// A class or an array class by its name, as a class resolves it (JVM Specification 5.4.3.1).
-    #[tactic(auto, unfolding(crate::specs::Resolve::named_resolved))]
+    #[tactic(auto, unfolding(crate::specs::Resolve::named_resolved, crate::specs::Met::of_class))]
     fn named_from<L: Ledger>(
         &self,
         from: &Class,
@@ -40,6 +41,7 @@ impl Table {
         requires { from.now.set < length self.now.files }
         ensures answer { AnswersUnless LoadFault.OutOfMemory result (named_resolved (class_in self.now.files from.now.set) from.now name.now) }
         ensures loaded { IfOk result (λ found. HasLoaded self.now.files found) }
+        ensures shelf { AreOnShelf self.now from.now.set (of_class name.now) → OnOk result (steps.new ≤ steps.old + 2) }
     {
         if is_array_name(name) {
             match self.array_from(from, name, steps) {
@@ -63,6 +65,7 @@ impl Table {
         requires { from.now.set < length self.now.files }
         ensures answer { AnswersUnless LoadFault.OutOfMemory result (class_entry (class_in self.now.files from.now.set) from.now (option_copied name.entry)) }
         ensures loaded { IfOk result (λ found. HasLoaded self.now.files found) }
+        ensures shelf { AreOnShelf self.now from.now.set (of_named (option_copied name.entry)) → OnOk result (steps.new ≤ steps.old + 2) }
     {
         match name {
             Some(name) => self.named_from(from, name, steps),
@@ -80,6 +83,7 @@ impl Table {
         requires { from.now.set < length self.now.files }
         ensures answer { AnswersUnless LoadFault.OutOfMemory result (field_entry (class_in self.now.files from.now.set) from.now (reference_at from.now.file.pool class member)) }
         ensures loaded { IfOk result (λ found. HasLoaded self.now.files found) }
+        ensures shelf { AreOnShelf self.now from.now.set (of_reference (reference_at from.now.file.pool class member)) → OnOk result (steps.new ≤ steps.old + 2) }
     {
         match reference_at(&from.file().parts().pool, class, member) {
             Some(field) => match self.field_from(from, &field, steps) {
@@ -101,6 +105,7 @@ impl Table {
         requires { from.now.set < length self.now.files }
         ensures answer { AnswersUnless LoadFault.OutOfMemory result (method_entry (class_in self.now.files from.now.set) of_interface from.now (reference_at from.now.file.pool class member)) }
         ensures loaded { IfOk result (λ found. HasLoaded self.now.files found) }
+        ensures shelf { AreOnShelf self.now from.now.set (of_reference (reference_at from.now.file.pool class member)) → OnOk result (steps.new ≤ steps.old + 2) }
     {
         match reference_at(&from.file().parts().pool, class, member) {
             Some(method) => match self.method_from(of_interface, from, &method, steps) {
@@ -112,7 +117,7 @@ impl Table {
     }
 
     /// What an entry of the constant pool of a class stands for.
-    #[tactic(auto, unfolding(crate::specs::Resolve::resolve_with))]
+    #[tactic(auto, unfolding(crate::specs::Resolve::resolve_with, crate::specs::Met::met))]
     fn entry_from<L: Ledger>(
         &self,
         from: &Class,
@@ -122,6 +127,7 @@ impl Table {
         requires { from.now.set < length self.now.files }
         ensures answer { AnswersUnless LoadFault.OutOfMemory result (resolve_with (class_in self.now.files from.now.set) from.now index) }
         ensures loaded { IfOk result (λ found. HasLoaded self.now.files found) }
+        ensures shelf { AreOnShelf self.now from.now.set (met from.now index) → OnOk result (steps.new ≤ steps.old + 2) }
     {
         let pool = &from.file().parts().pool;
         match entry(pool, index) {
@@ -160,6 +166,8 @@ impl Table {
         ensures answer { AnswersUnless LoadFault.OutOfMemory result (resolve self.now.files class.now index) }
         // The classes in it are as the calls want them that are handed a class.
         ensures loaded { IfOk result (λ found. HasLoaded self.now.files found) }
+        // It costs at most two steps where each class that it loads stands on the shelf.
+        ensures shelf { AreOnShelf self.now class.now.set (met class.now index) → OnOk result (steps.new ≤ steps.old + 2) }
     {
         self.entry_from(class.get(), index, steps)
     }

@@ -1,17 +1,20 @@
-ghost use Rattle.std.specs.Prelude.{◌≡◌, ◌<◌, ◌^◌, length, slice_get, Ok, IfOk, IfSome};
+ghost use Rattle.std.specs.Prelude.{◌≡◌, ◌<◌, ◌^◌, ℕ, length, slice_get, Ok, IfOk, IfSome};
 ghost use Rattle.std.specs.Option.{option_copied};
+ghost use Rattle.mvm_table.specs.BuiltIn.{HasBuiltins};
 ghost use Rattle.mvm_table.specs.Contents.{AreShort, AreEmpty, shelf_of};
 ghost use Rattle.mvm_table.specs.Files.{files_in, bytes_of, bytes_at, bytes_by_place, all_files};
 ghost use Rattle.mvm_table.specs.Loads.{class_in};
 ghost use Rattle.mvm_table.specs.NameMap.{row};
 
+use crate::built_in::with_builtins;
 use crate::name_map::NameMap;
 use crate::source::SourceRow;
 use mvm_base::{List, Name, OutOfMemory};
 use mvm_set::{Class, ClassSet, Shared};
 use std::alloc::Global;
-use std::marker::Model;
+use std::marker::{Brand, Model};
 use std::sync::atomic::AtomicU64;
+use std::sync::ledger::Blank;
 
 /// The classes of the sets (JVM Specification 5.3): of each set the files, and the classes that stand on its shelf, so that nobody
 /// has to load them again.
@@ -37,7 +40,11 @@ impl Model for Table {
 }
 
 impl Table {
-    /// The table of these sources and sets.
+    /// The table of these sources and sets. The built-in classes stand on the shelf of each set.
+    ///
+    /// # Errors
+    ///
+    /// `OutOfMemory` where memory runs out, and where there are more than 2^32 sets.
     pub fn new(
         alloc: Global,
         sources: List<SourceRow>,
@@ -46,15 +53,25 @@ impl Table {
         // A class file has fewer than 2^32 bytes.
         requires { AreShort sources }
         ensures files { IfOk result (λ table. table.files ≡ all_files sources sets) }
+        // The built-in classes stand on all shelves.
+        ensures builtins { IfOk result (λ table. (set : ℕ) → set < length table.files → HasBuiltins table set) }
     {
         let shelves = empty_shelves(alloc, sets.len())?;
-        Ok(Table {
+        let table = Table {
             alloc,
             sources,
             sets,
             shelves,
             decoded: AtomicU64::new(0),
-        })
+        };
+        with_builtins::<Brand>(table, Blank::new(1))
+    }
+
+    /// How many sets there are.
+    pub(crate) fn set_count(&self) -> usize
+        ensures { result ≡ length self.now.files }
+    {
+        self.sets.len()
     }
 
     /// The bytes of the file of a name in a set.

@@ -7,12 +7,12 @@ use Rattle.mvm_table.specs.declared.fault.LoadFault.TheVariants.{OutOfMemory}
 use Rattle.mvm_table.proofs.Read.{is_named, is_wrong, is_faulty}
 use Rattle.mvm_table.proofs.find.read_as.Goals as goal
 
-pub returns-then-is_called : goal.returns-then-is_called
-returns-then-is_called g c = is_named _ _ _ c.in-Ok.ensures.says (sym c.is_called.ensures ∙ c.if-is_called.true)
+pub returns-then-is_called-clause-answer : goal.returns-then-is_called-clause-answer
+returns-then-is_called-clause-answer g c = is_named _ _ _ c.in-Ok.ensures.says (sym c.is_called.ensures ∙ c.if-is_called.true)
 
-pub returns-else-is_called : goal.returns-else-is_called
-returns-else-is_called g c = λ h. is_wrong _ _ _ c.in-Ok.ensures.says (sym c.is_called.ensures ∙ c.if-is_called.false)
+pub returns-else-is_called-clause-answer : goal.returns-else-is_called-clause-answer
+returns-else-is_called-clause-answer g c = λ h. is_wrong _ _ _ c.in-Ok.ensures.says (sym c.is_called.ensures ∙ c.if-is_called.false)
 
-pub returns-in-Err : goal.returns-in-Err
-returns-in-Err g c =
+pub returns-in-Err-clause-answer : goal.returns-in-Err-clause-answer
+returns-in-Err-clause-answer g c =
     subst (λ (f : LoadFault). Fails OutOfMemory f (called c.args.name.now (reading c.args.bytes.now))) (sym c.unread.ensures) (is_faulty c.args.bytes.now c.args.name.now c.in-Err.fault c.in-Err.ensures.says)

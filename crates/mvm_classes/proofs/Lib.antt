@@ -1,0 +1,3 @@
+pub mod EntryMore
+pub mod FileMore
+pub mod WordMore

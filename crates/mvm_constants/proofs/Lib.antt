@@ -1,0 +1,10 @@
+pub mod Lowest
+pub mod Finding
+pub mod Growing
+pub mod Keys
+pub mod Meaning
+pub mod Names
+pub mod Placing
+pub mod Settled
+pub mod Stored
+pub mod Taken

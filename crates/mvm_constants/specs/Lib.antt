@@ -1,0 +1,4 @@
+pub mod Index
+pub mod NameMap
+pub mod Search
+pub mod Settling

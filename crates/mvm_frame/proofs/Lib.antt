@@ -1,0 +1,5 @@
+pub mod Placing
+pub mod Framed
+pub mod Shuffling
+pub mod FormLaws
+pub mod FrameLaws

@@ -1,0 +1,9 @@
+pub mod Order
+pub mod Range
+pub mod Constants
+pub mod Encoding
+pub mod Blocks
+pub mod Assembly
+pub mod LaidOut
+pub mod Disassembly
+pub mod Laws

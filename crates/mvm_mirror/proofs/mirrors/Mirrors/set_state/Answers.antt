@@ -1,0 +1,18 @@
+use Rattle.std.proofs.Common.{refl}
+use Rattle.mvm_mirror.proofs.Changed.{state_set, classes_set, kept_set}
+use Rattle.mvm_mirror.proofs.mirrors.Mirrors.set_state.Goals as goal
+
+pub invariant_of-self : goal.invariant_of-self
+invariant_of-self c =
+    let w = c.set_state.ensures in
+    rw w.2 (kept_set _ c.self.inside.mirrors.items c.args.mirror w.0 (record w.0 { state = c.args.state }) c.self.invariant w.1 refl refl)
+
+pub returns-clause-named : goal.returns-clause-named
+returns-clause-named c =
+    let w = c.set_state.ensures in
+    rw (← c.self.view_is, w.2) (λ name k. state_set c.self.inside.mirrors.items c.args.mirror w.0 c.args.state name w.1 k)
+
+pub returns-clause-classes : goal.returns-clause-classes
+returns-clause-classes c =
+    let w = c.set_state.ensures in
+    rw (← c.self.view_is, w.2) (classes_set c.self.inside.mirrors.items c.args.mirror w.0 (record w.0 { state = c.args.state }) w.1 refl)

@@ -1,0 +1,4 @@
+pub mod States
+pub mod Statics
+pub mod Seen
+pub mod Kept

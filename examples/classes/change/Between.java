@@ -1,0 +1,4 @@
+package change;
+
+/** The middle of the three. */
+public class Between extends Upper {}

@@ -1,0 +1,4 @@
+package change;
+
+/** A class over the two. */
+public class Both extends Right implements Left {}

@@ -1,0 +1,4 @@
+package change;
+
+/** The lower of the three. */
+public class Lower extends Between {}

@@ -1,0 +1,4 @@
+package change;
+
+/** The other of the two. */
+public class Other {}

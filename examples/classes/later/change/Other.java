@@ -1,0 +1,4 @@
+package change;
+
+/** The later form: it inherits from `One`. */
+public class Other extends One {}
