@@ -244,9 +244,9 @@ walk_has table set root class e =
     subst (λ (c : Lineage). HasSupers files (walk_names c) × (is_in (walk_names c) root ≡ true)) f.2
     (record { apart = walk_apart set files root f.0 f.1; supers = walk_supers set files root f.0 f.1 }, walk_root set files root f.0 f.1)
 
--- a class that was loaded costs no more than its own file and those of all that it inherits from
-pub answers_reads : (table : List (List File)) (set : ℕ) (root : List ℕ) (result : Result Lineage LoadFault) (before after : ℕ) → AnswersUnless OutOfMemory result (class_in table set root)
-    → ((names : List (List ℕ)) → HasSupers (files_in set table) names → is_in names root ≡ true → after ≤ before + costs (files_in set table) names)
-    → IfOk result (λ class. after ≤ before + costs (files_in set table) (walk_names class))
-answers_reads table set root (Ok class) before after a h = let w = walk_has table set root class a in h (walk_names class) w.0 w.1
-answers_reads table set root (Err fault) before after a h = tt
+-- a class that was loaded costs no more than is to be read for it and for all that it inherits from
+pub answers_reads : (table : List (List File)) (weight : List ℕ → ℕ) (set : ℕ) (root : List ℕ) (result : Result Lineage LoadFault) (before after : ℕ) → AnswersUnless OutOfMemory result (class_in table set root)
+    → ((names : List (List ℕ)) → HasSupers (files_in set table) names → is_in names root ≡ true → after ≤ before + costs weight names)
+    → IfOk result (λ class. after ≤ before + costs weight (walk_names class))
+answers_reads table weight set root (Ok class) before after a h = let w = walk_has table set root class a in h (walk_names class) w.0 w.1
+answers_reads table weight set root (Err fault) before after a h = tt

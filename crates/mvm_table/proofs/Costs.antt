@@ -5,12 +5,13 @@ use Rattle.std.specs.Str.{bytes_eq}
 use Rattle.std.proofs.lemmas.Slice.Eq.{bytes_eq-Decides}
 use Rattle.mvm_layout.specs.declared.parts.Parts.{Parts}
 use Rattle.mvm_set.specs.declared.class.Lineage.{Lineage}
-use Rattle.mvm_table.specs.Files.{File}
+use Rattle.mvm_table.specs.Files.{File, files_in}
 use Rattle.mvm_table.specs.Load.{is_in, found}
 use Rattle.mvm_table.specs.NameMap.{Rows, row, Puts}
 use Rattle.mvm_table.specs.Work.{weight_if, unpassed}
 use Rattle.mvm_table.specs.Begun.{super_at, names_of, is_begun, is_met, began, begun_of, IsLoading, Closes}
-use Rattle.mvm_table.specs.Cost.{cost, costs, AreApart, HasSupers, AreAmong, left, Reads}
+use Rattle.mvm_table.specs.Contents.{Contents, is_shelved}
+use Rattle.mvm_table.specs.Cost.{cost, costs, to_read, AreApart, HasSupers, AreAmong, left, Reads}
 use Rattle.mvm_table.specs.declared.begun.Begun.{Begun}
 use Rattle.mvm_table.specs.declared.fault.LoadFault.{LoadFault}
 use Rattle.mvm_table.proofs.Weights.{is_in-new}
@@ -79,19 +80,19 @@ module _ (met : Rows (Option Lineage)) (name : List ℕ) (value : Option Lineage
       by false e = a other (sym (met_else other e) ∙ m)
 
   -- a name that was met is met still
-  pub met_same : (files : List File) (names : List (List ℕ)) → is_met met name ≡ true → left files new names ≡ left files met names
-  met_same files names m = by names
+  pub met_same : (weight : List ℕ → ℕ) (names : List (List ℕ)) → is_met met name ≡ true → left weight new names ≡ left weight met names
+  met_same weight names m = by names
     where
       each : (other : List ℕ) (b : Bool) → bytes_eq other name ≡ b → is_met new other ≡ is_met met other
       each other true e = let same : other ≡ name = (bytes_eq-Decides other name).0 e in ap (is_met new) same ∙ met_now ∙ sym (ap (is_met met) same ∙ m)
       each other false e = met_else other e
 
-      by : (ns : List (List ℕ)) → unpassed (cost files) (is_met new) ns ≡ unpassed (cost files) (is_met met) ns
+      by : (ns : List (List ℕ)) → unpassed weight (is_met new) ns ≡ unpassed weight (is_met met) ns
       by [] = refl
-      by (n ∷ ns) = ap (λ (b : Bool). weight_if b (cost files n) + unpassed (cost files) (is_met new) ns) (each n (bytes_eq n name) refl) ∙ ap (λ (k : ℕ). weight_if (is_met met n) (cost files n) + k) (by ns)
+      by (n ∷ ns) = ap (λ (b : Bool). weight_if b (weight n) + unpassed weight (is_met new) ns) (each n (bytes_eq n name) refl) ∙ ap (λ (k : ℕ). weight_if (is_met met n) (weight n) + k) (by ns)
 
-  pub left_less : (files : List File) (names : List (List ℕ)) → HasSupers files names → is_in names name ≡ true → is_met met name ≡ false → left files new names + cost files name ≡ left files met names
-  left_less files names w i o = one_passes (cost files) (is_met met) (is_met new) name met_else o met_now names w.apart i
+  pub left_less : (files : List File) (weight : List ℕ → ℕ) (names : List (List ℕ)) → HasSupers files names → is_in names name ≡ true → is_met met name ≡ false → left weight new names + weight name ≡ left weight met names
+  left_less files weight names w i o = one_passes weight (is_met met) (is_met new) name met_else o met_now names w.apart i
 
 -- ---- the steps
 
@@ -100,7 +101,7 @@ met_begun (Some o) e = refl
 met_begun None e = absurd cc
 
 module _ (set : ℕ) (files : List File) (root : List ℕ) (xs : List Begun) (top : Begun) (met : Rows (Option Lineage)) (l : IsLoading set files root (xs ++ top ∷ []) met)
-    (names : List (List ℕ)) (w : HasSupers files names) (a : AreAmong met names) where
+    (weight : List ℕ → ℕ) (names : List (List ℕ)) (w : HasSupers files names) (a : AreAmong met names) where
   top_met : is_met met top.name ≡ true
   top_met =
       met_begun (row top.name met)
@@ -111,42 +112,53 @@ module _ (set : ℕ) (files : List File) (root : List ℕ) (xs : List Begun) (to
       let t = last_stands set files [] xs top l.stand in
       w.supers top.name super top.file (a top.name top_met) t.is_found (is_super top.file top.next super s)
 
-  pub closes_reads : (found : Option Lineage) (class : Lineage) (new : Rows (Option Lineage)) (before after : ℕ) → after ≡ before → Closes xs top.name class met new found → Reads files names (Ok found) met before new after
+  pub closes_reads : (found : Option Lineage) (class : Lineage) (new : Rows (Option Lineage)) (before after : ℕ) → after ≡ before → Closes xs top.name class met new found → Reads weight names (Ok found) met before new after
   closes_reads (Some answer) class new before after e c =
-      let r : AreAmong met names × (after + left files met names ≡ before + left files met names) = (a, omega (arith, e)) in
-      subst (λ (m : Rows (Option Lineage)). AreAmong m names × (after + left files m names ≡ before + left files met names)) (sym c.2) r
+      let r : AreAmong met names × (after + left weight met names ≡ before + left weight met names) = (a, omega (arith, e)) in
+      subst (λ (m : Rows (Option Lineage)). AreAmong m names × (after + left weight m names ≡ before + left weight met names)) (sym c.2) r
   closes_reads None class new before after e c = (
     among_more met top.name (Some class) new c names (a top.name top_met) a,
-    (let s = met_same met top.name (Some class) new c files names top_met in omega (arith, s, e)),
+    (let s = met_same met top.name (Some class) new c weight names top_met in omega (arith, s, e)),
   )
 
   module _ (super : List ℕ) (s : Some (Some super) ≡ super_at top.file top.next) (n : row super met ≡ None) where
     -- a super that could not be begun
-    pub super_reads : (before after : ℕ) → after ≤ before + cost files super → after ≤ before + left files met names
+    pub super_reads : (before after : ℕ) → after ≤ before + weight super → after ≤ before + left weight met names
     super_reads before after h =
-        let o = one_weighs (cost files) (is_met met) super (ap is_some n) names (super_among super (sym s)) in
+        let o = one_weighs weight (is_met met) super (ap is_some n) names (super_among super (sym s)) in
         omega (arith, o, h)
 
     of_name : (r : Result Parts LoadFault) (new : Begun) → began super r ≡ Ok new → super ≡ new.name
     of_name (Ok file) new e = let q : begun_of super file ≡ new = cc in ap (λ (b : Begun). b.name) q
     of_name (Err fault) new e = absurd cc
 
-    pub opens_reads : (new : Begun) (rows : Rows (Option Lineage)) (before after : ℕ) → began super (found files super) ≡ Ok new → Puts met new.name None rows → after ≡ before + cost files super
-        → AreAmong rows names × (after + left files rows names ≡ before + left files met names)
+    pub opens_reads : (new : Begun) (rows : Rows (Option Lineage)) (before after : ℕ) → began super (found files super) ≡ Ok new → Puts met new.name None rows → after ≡ before + weight super
+        → AreAmong rows names × (after + left weight rows names ≡ before + left weight met names)
     opens_reads new rows before after b p h =
         let q : Puts met super None rows = subst (λ (m : List ℕ). Puts met m None rows) (sym (of_name (found files super) new b)) p in
         let i = super_among super (sym s) in (
           among_more met super None rows q names i a,
-          (let k = left_less met super None rows q files names w i (ap is_some n) in omega (arith, k, h)),
+          (let k = left_less met super None rows q files weight names w i (ap is_some n) in omega (arith, k, h)),
         )
 
 -- ---- the whole load
 
-pub left_all : (files : List File) (names : List (List ℕ)) → left files [] names ≡ costs files names
-left_all files [] = refl
-left_all files (name ∷ names) = ap (λ (n : ℕ). cost files name + n) (left_all files names)
+pub left_all : (weight : List ℕ → ℕ) (names : List (List ℕ)) → left weight [] names ≡ costs weight names
+left_all weight [] = refl
+left_all weight (name ∷ names) = ap (λ (n : ℕ). weight name + n) (left_all weight names)
 
-module _ (files : List File) (name : List ℕ) (names : List (List ℕ)) (w : HasSupers files names) (i : is_in names name ≡ true) where
+-- for a class that does not stand on the shelf its file is read
+off_shelf : (table : Contents) (set : ℕ) (name : List ℕ) → is_shelved table set name ≡ false → to_read table set name ≡ cost (files_in set table.files) name
+off_shelf table set name e = ap (λ (b : Bool). cond b 0 (cost (files_in set table.files) name)) e
+
+module _ (table : Contents) (set : ℕ) (name : List ℕ) (e : is_shelved table set name ≡ false) (before after : ℕ) where
+  pub all_read : after ≡ before + cost (files_in set table.files) name → after ≡ before + to_read table set name
+  all_read h = let o = off_shelf table set name e in omega (arith, o, h)
+
+  pub most_read : after ≤ before + cost (files_in set table.files) name → after ≤ before + to_read table set name
+  most_read h = let o = off_shelf table set name e in omega (arith, o, h)
+
+module _ (files : List File) (weight : List ℕ → ℕ) (name : List ℕ) (names : List (List ℕ)) (w : HasSupers files names) (i : is_in names name ≡ true) where
   none_met : AreAmong [] names
   none_met other m = absurd cc
 
@@ -154,14 +166,14 @@ module _ (files : List File) (name : List ℕ) (names : List (List ℕ)) (w : Ha
   first_among met p = among_more [] name None met p names i none_met
 
   -- a class of which no file is read costs no more than those names
-  pub first_weighs : (before after : ℕ) → after ≤ before + cost files name → after ≤ before + costs files names
+  pub first_weighs : (before after : ℕ) → after ≤ before + weight name → after ≤ before + costs weight names
   first_weighs before after h =
-      let o = one_weighs (cost files) (is_met []) name refl names i in
-      let z = left_all files names in
+      let o = one_weighs weight (is_met []) name refl names i in
+      let z = left_all weight names in
       omega (arith, o, z, h)
 
-  pub first_reads : (met : Rows (Option Lineage)) (before between after : ℕ) → Puts [] name None met → between ≡ before + cost files name → after ≤ between + left files met names → after ≤ before + costs files names
+  pub first_reads : (met : Rows (Option Lineage)) (before between after : ℕ) → Puts [] name None met → between ≡ before + weight name → after ≤ between + left weight met names → after ≤ before + costs weight names
   first_reads met before between after p h k =
-      let s = left_less [] name None met p files names w i refl in
-      let z = left_all files names in
+      let s = left_less [] name None met p files weight names w i refl in
+      let z = left_all weight names in
       omega (arith, s, z, h, k)

@@ -1,11 +1,12 @@
--- What a load reads: a step for each byte of a file, and each file once.
-use Rattle.std.specs.Prelude.{◌≡◌, ◌≤◌, ◌+◌, ◌⊎◌, ℕ, List, [], ◌∷◌, length, true, false, Option, Some, None, Result, Ok, Err}
+-- What a load reads: a step for each byte of a file, each file once, and none of a class that stands on the shelf.
+use Rattle.std.specs.Prelude.{◌≡◌, ◌≤◌, ◌+◌, ◌⊎◌, ℕ, List, [], ◌∷◌, length, true, false, if◌then◌else◌, Option, Some, None, Result, Ok, Err}
 use Rattle.mvm_layout.specs.declared.parts.Parts.{Parts}
 use Rattle.mvm_builtin.specs.Classes.{builtin}
 use Rattle.mvm_set.specs.ClassOf.{own_walk_name}
 use Rattle.mvm_set.specs.Names.{superclass, superinterfaces, with_name}
 use Rattle.mvm_set.specs.declared.class.Lineage.{Lineage}
-use Rattle.mvm_table.specs.Files.{File, bytes_of}
+use Rattle.mvm_table.specs.Contents.{Contents, is_shelved}
+use Rattle.mvm_table.specs.Files.{File, bytes_of, files_in}
 use Rattle.mvm_table.specs.Load.{is_in, found}
 use Rattle.mvm_table.specs.Begun.{is_met}
 use Rattle.mvm_table.specs.NameMap.{Rows}
@@ -21,10 +22,14 @@ size_of None None = 0
 abbrev pub cost : List File → List ℕ → ℕ
 cost files name = size_of (builtin name) (bytes_of name files)
 
--- the bytes that are read for all of these
-abbrev pub costs : List File → List (List ℕ) → ℕ
-costs files [] = 0
-costs files (name ∷ names) = cost files name + costs files names
+-- what a load has to read for the class of a name in a set: nothing where it stands on the shelf
+abbrev pub to_read : Contents → ℕ → List ℕ → ℕ
+to_read table set name = if is_shelved table set name then 0 else cost (files_in set table.files) name
+
+-- what it has to read for all of these
+abbrev pub costs : (List ℕ → ℕ) → List (List ℕ) → ℕ
+costs weight [] = 0
+costs weight (name ∷ names) = weight name + costs weight names
 
 -- the names of those in a list that have one
 abbrev pub names_by : {A : Type 0} → (A → Option (List ℕ)) → List A → List (List ℕ)
@@ -57,11 +62,11 @@ pub record HasSupers (files : List File) (names : List (List ℕ)) : Type 0 wher
 abbrev pub AreAmong : Rows (Option Lineage) → List (List ℕ) → Type 0
 AreAmong met names = (name : List ℕ) → is_met met name ≡ true → is_in names name ≡ true
 
--- the bytes of those of the names that were not met
-abbrev pub left : List File → Rows (Option Lineage) → List (List ℕ) → ℕ
-left files met names = unpassed (cost files) (is_met met) names
+-- what it has to read for those of the names that were not met
+abbrev pub left : (List ℕ → ℕ) → Rows (Option Lineage) → List (List ℕ) → ℕ
+left weight met names = unpassed weight (is_met met) names
 
 -- what one step of a load reads is not left to be read
-abbrev pub Reads : List File → List (List ℕ) → Result (Option Lineage) LoadFault → Rows (Option Lineage) → ℕ → Rows (Option Lineage) → ℕ → Type 0
-Reads files names (Ok found) old before new after = AreAmong new names × (after + left files new names ≡ before + left files old names)
-Reads files names (Err fault) old before new after = after ≤ before + left files old names
+abbrev pub Reads : (List ℕ → ℕ) → List (List ℕ) → Result (Option Lineage) LoadFault → Rows (Option Lineage) → ℕ → Rows (Option Lineage) → ℕ → Type 0
+Reads weight names (Ok found) old before new after = AreAmong new names × (after + left weight new names ≡ before + left weight old names)
+Reads weight names (Err fault) old before new after = after ≤ before + left weight old names

@@ -5,8 +5,9 @@ ghost use Rattle.mvm_table.specs.Files.{files_in};
 ghost use Rattle.mvm_table.specs.Load.{is_in, is_sort, may_stand, found};
 ghost use Rattle.mvm_table.specs.Loads.{class_in, IsLoaded};
 ghost use Rattle.mvm_table.specs.NameMap.{Puts};
+ghost use Rattle.mvm_table.specs.declared.begun.Super.TheVariants.{New};
 ghost use Rattle.mvm_table.specs.Contents.{is_shelved};
-ghost use Rattle.mvm_table.specs.Cost.{cost, costs, walk_names, HasSupers, AreAmong, left, Reads};
+ghost use Rattle.mvm_table.specs.Cost.{cost, costs, to_read, walk_names, HasSupers, AreAmong, left, Reads};
 ghost use Rattle.mvm_table.specs.Begun.{began, listed, is_interface_place, taken, AreLoaded, IsLoading, Goes, Known, Closes, to_do};
 
 use crate::begun::{Begun, Super, with_class};
@@ -97,7 +98,8 @@ impl Table {
     /// What is known of a super, by its name.
     fn look(&self, set: u32, name: &Name, met: &Met) -> Result<Super, OutOfMemory>
         requires { AreLoaded set (files_in set self.now.files) met.now }
-        ensures { IfOk result (λ found. Known set (files_in set self.now.files) met.now name.now found) }
+        ensures known { IfOk result (λ found. Known set (files_in set self.now.files) met.now name.now found) }
+        ensures new { IfOk result (λ found. found ≡ New → is_shelved self.now set name.now ≡ false) }
     {
         if let Some(class) = self.on_shelf(set, name) {
             return Ok(Super::Ready(class.share()?));
@@ -176,7 +178,7 @@ impl Table {
     ) -> Result<Option<Shared<Class>>, LoadFault>
         requires { IsLoading set (files_in set self.now.files) root.now (begun.old.items ++ top ∷ []) met.old }
         ensures goes { Goes set (files_in set self.now.files) root.now (to_do (files_in set self.now.files) (begun.old.items ++ top ∷ []) met.old) result begun.new.items met.new }
-        ensures reads { (names : Items (Items ℕ)) → HasSupers (files_in set self.now.files) names → AreAmong met.old names → Reads (files_in set self.now.files) names result met.old steps.old met.new steps.new }
+        ensures reads { (names : Items (Items ℕ)) → HasSupers (files_in set self.now.files) names → AreAmong met.old names → Reads (to_read self.now set) names result met.old steps.old met.new steps.new }
     {
         match top.next_super() {
             None => Ok(self.close(set, begun, met, top)?),
@@ -215,7 +217,7 @@ impl Table {
     ) -> Result<Shared<Class>, LoadFault>
         requires { IsLoading set (files_in set self.now.files) root.now begun.items met }
         ensures answer { AnswersUnless LoadFault.OutOfMemory result (class_in self.now.files set root.now) }
-        ensures reads { (names : Items (Items ℕ)) → HasSupers (files_in set self.now.files) names → AreAmong met names → steps.new ≤ steps.old + left (files_in set self.now.files) met names }
+        ensures reads { (names : Items (Items ℕ)) → HasSupers (files_in set self.now.files) names → AreAmong met names → steps.new ≤ steps.old + left (to_read self.now set) met names }
     {
         while let Some(top) = begun.pop() {
             match self.step(set, root, &mut begun, &mut met, top, steps) {
@@ -235,7 +237,7 @@ impl Table {
         steps: &mut Steps<L>,
     ) -> Result<Shared<Class>, LoadFault>
         ensures answer { AnswersUnless LoadFault.OutOfMemory result (class_in self.now.files set name.now) }
-        ensures reads { (names : Items (Items ℕ)) → HasSupers (files_in set self.now.files) names → is_in names name.now ≡ true → steps.new ≤ steps.old + costs (files_in set self.now.files) names }
+        ensures reads { is_shelved self.now set name.now ≡ false → (names : Items (Items ℕ)) → HasSupers (files_in set self.now.files) names → is_in names name.now ≡ true → steps.new ≤ steps.old + costs (to_read self.now set) names }
     {
         let new = match self.begin(set, name, steps) {
             Ok(new) => new,
@@ -265,8 +267,9 @@ impl Table {
         ensures loads { AnswersUnless LoadFault.OutOfMemory result (class_in self.now.files set name.now) }
         // It is as the calls want it that are handed a class.
         ensures loaded { IfOk result (λ class. IsLoaded self.now.files class) }
-        // Any other costs at most the bytes of its own file and of the files of all that it inherits from, each counted once.
-        ensures reads { is_shelved self.now set name.now ≡ false → IfOk result (λ class. steps.new ≤ steps.old + costs (files_in set self.now.files) (walk_names class)) }
+        // Any other costs at most the bytes of its own file and of the files of all that it inherits from and that does not stand there,
+        // each counted once.
+        ensures reads { is_shelved self.now set name.now ≡ false → IfOk result (λ class. steps.new ≤ steps.old + costs (to_read self.now set) (walk_names class)) }
         // A class that stands on the shelf costs one step.
         ensures shelf { is_shelved self.now set name.now ≡ true → OnOk result (steps.new ≡ steps.old + 1) }
     {
