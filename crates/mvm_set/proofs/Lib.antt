@@ -4,6 +4,7 @@ pub mod Once
 pub mod Seen
 pub mod Sources
 pub mod Numbered
+pub mod FieldPlaces
 pub mod Over
 pub mod Kept
 pub mod Joined
