@@ -2,6 +2,7 @@ pub mod Packages
 pub mod Counted
 pub mod Once
 pub mod Seen
+pub mod Single
 pub mod Sources
 pub mod Numbered
 pub mod FieldPlaces
