@@ -94,7 +94,7 @@ step_single repeats seen next kept more x xs r apart same e =
     let left : without own_walk_name x (once own_walk_name xs) ≡ once own_walk_name xs = without-once own_walk_name x xs ∙ ap (once own_walk_name) (same_filter x xs apart) in
     let new : is_met repeats seen (own_walk_name x) ≡ false = rw r refl in
     let same_tests : filter (λ own. not (is_met repeats next (own_walk_name own))) (once own_walk_name xs) ≡ filter (λ own. not (is_met repeats seen (own_walk_name own))) (once own_walk_name xs) =
-        filter_agree (λ own. not (is_met repeats next (own_walk_name own))) (λ own. not (is_met repeats seen (own_walk_name own))) (λ own. ap not (same (own_walk_name own))) (once own_walk_name xs) in
+    filter_agree (λ own. not (is_met repeats next (own_walk_name own))) (λ own. not (is_met repeats seen (own_walk_name own))) (λ own. ap not (same (own_walk_name own))) (once own_walk_name xs) in
     rw (e, left, new) (append_assoc kept (x ∷ []) (unmet repeats next xs) ∙ ap (λ (ys : List OwnWalk). kept ++ x ∷ ys) same_tests)
 
 pub step : (repeats seen next : Test) (kept more : List OwnWalk) (x : OwnWalk) (xs : List OwnWalk)
@@ -149,18 +149,20 @@ among_self x xs (y ∷ ys) e = by (same_text (own_walk_name y) (own_walk_name x)
 -- a list of names that may all stand twice
 all_repeat : (repeats : Test) (xs ys : List OwnWalk) → ((other : Option (List ℕ)) → is_among other xs ≡ true → repeats other ≡ true) → AreSingle repeats ys → AreSingle repeats (xs ++ ys)
 all_repeat repeats [] ys all s = s
-all_repeat repeats (x ∷ xs) ys all s =
-    ((λ r. false_of (is_among (own_walk_name x) (xs ++ ys)) (λ f. let t : repeats (own_walk_name x) ≡ true = all (own_walk_name x) (among_self x xs (xs ++ ys) f) in absurd cc)),
-    all_repeat repeats xs ys (λ other f. all other (ap (λ b. same_text (own_walk_name x) other || b) f ∙ or_true (same_text (own_walk_name x) other))) s)
+all_repeat repeats (x ∷ xs) ys all s = (
+  (λ r. false_of (is_among (own_walk_name x) (xs ++ ys)) (λ f. let t : repeats (own_walk_name x) ≡ true = all (own_walk_name x) (among_self x xs (xs ++ ys) f) in absurd cc)),
+  all_repeat repeats xs ys (λ other f. all other (ap (λ b. same_text (own_walk_name x) other || b) f ∙ or_true (same_text (own_walk_name x) other))) s,
+)
 
 -- a list in which each name stands once, before names that may all stand twice
 once_before : (repeats : Test) (xs ys : List OwnWalk) → once own_walk_name xs ≡ xs → ((other : Option (List ℕ)) → is_among other ys ≡ true → repeats other ≡ true) → AreSingle repeats ys → AreSingle repeats (xs ++ ys)
 once_before repeats [] ys one all s = s
-once_before repeats (x ∷ xs) ys one all s =
-    ((λ r. list_any-append (λ own. same_text (own_walk_name own) (own_walk_name x)) xs ys
-    ∙ ap (λ b. b || is_among (own_walk_name x) ys) (alone x xs one)
-    ∙ false_of (is_among (own_walk_name x) ys) (λ f. let t : repeats (own_walk_name x) ≡ true = all (own_walk_name x) f in absurd cc)),
-    once_before repeats xs ys (rest_once x xs one) all s)
+once_before repeats (x ∷ xs) ys one all s = (
+  (λ r. list_any-append (λ own. same_text (own_walk_name own) (own_walk_name x)) xs ys
+      ∙ ap (λ b. b || is_among (own_walk_name x) ys) (alone x xs one)
+      ∙ false_of (is_among (own_walk_name x) ys) (λ f. let t : repeats (own_walk_name x) ≡ true = all (own_walk_name x) f in absurd cc)),
+  once_before repeats xs ys (rest_once x xs one) all s,
+)
 
 joined-append : (lists more : List (Bor (List OwnWalk))) → joined (lists ++ more) ≡ joined lists ++ joined more
 joined-append [] more = refl

@@ -19,7 +19,7 @@ loop-i-preserved c =
     let e : drop c.loop-i.i c.args.classes.now ≡ class ∷ behind = grind (arith, common_steps) in
     let list : c.checked.result.now ≡ class.checked = c.checked.ensures.value ∙ ap (λ (one : Lineage). one.checked) c.get.ensures in
     let one : once own_walk_name c.checked.result.now ≡ c.checked.result.now =
-        subst (λ (owns : List OwnWalk). once own_walk_name owns ≡ owns) (sym c.checked.ensures.value) c.checked.ensures.once in
+    subst (λ (owns : List OwnWalk). once own_walk_name owns ≡ owns) (sym c.checked.ensures.value) c.checked.ensures.once in
     record {
       joined =
           ap (λ (owns : List OwnWalk). owns ++ checked_of behind) (more_lists lists c.push.new.self.items c.checked.result c.in_ok-push.ensures.items)

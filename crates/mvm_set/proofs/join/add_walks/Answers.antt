@@ -19,7 +19,7 @@ loop-i-preserved c =
     let e : drop c.loop-i.i c.args.classes.now ≡ class ∷ behind = grind (arith, common_steps) in
     let list : c.walk.result.now ≡ class.walk = c.walk.ensures.value ∙ ap (λ (one : Lineage). one.walk) c.get.ensures in
     let one : once own_walk_name c.walk.result.now ≡ c.walk.result.now =
-        subst (λ (owns : List OwnWalk). once own_walk_name owns ≡ owns) (sym c.walk.ensures.value) c.walk.ensures.once in
+    subst (λ (owns : List OwnWalk). once own_walk_name owns ≡ owns) (sym c.walk.ensures.value) c.walk.ensures.once in
     record {
       joined =
           ap (λ (owns : List OwnWalk). owns ++ walks_of behind) (more_lists lists c.push.new.self.items c.walk.result c.in_ok-push.ensures.items)
