@@ -12,7 +12,7 @@ loop-i-preserved c =
     let e : drop c.loop-i.i c.args.sources.now ≡ row ∷ behind = grind (arith, common_steps) in
     let text : c.as_slice.result.now ≡ row.bytes = c.as_slice.ensures ∙ ap (λ (one : SourceRow). one.bytes) (sym c.index-sources-i.is) in
     let first : c.place_in.result ≡ first_of sources row =
-        c.place_in.ensures ∙ ap or_zero (c.in_ok-places.ensures c.as_slice.result.now ∙ ap (λ (bytes : List ℕ). place_from 0 bytes sources) text) in
+    c.place_in.ensures ∙ ap or_zero (c.in_ok-places.ensures c.as_slice.result.now ∙ ap (λ (bytes : List ℕ). place_from 0 bytes sources) text) in
     ap (λ (firsts : List ℕ). firsts ++ map (first_of sources) behind) c.in_ok-push.ensures.items
     ∙ append_assoc c.loop-i.firsts.items (c.place_in.result ∷ []) (map (first_of sources) behind)
     ∙ ap (λ (place : ℕ). c.loop-i.firsts.items ++ place ∷ map (first_of sources) behind) first
