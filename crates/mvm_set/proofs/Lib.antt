@@ -2,8 +2,10 @@ pub mod Packages
 pub mod Counted
 pub mod Once
 pub mod Seen
+pub mod Single
 pub mod Sources
 pub mod Numbered
+pub mod FieldPlaces
 pub mod Over
 pub mod Kept
 pub mod Joined

@@ -8,5 +8,6 @@ pub mod Set
 pub mod Members
 pub mod Index
 pub mod IndexOf
+pub mod FieldPlaces
 pub mod Fields
 pub mod Access

@@ -69,8 +69,8 @@ impl Class {
         let checks = other_checked(alloc, file.get(), above, across)?;
         let own = own_of(alloc, file.share()?, others.as_slice())?;
         let line = in_front_of_lines(alloc, &own, above)?;
-        let walk = in_front(alloc, &own, others.as_slice())?;
-        let checked = in_front(alloc, &own, checks.as_slice())?;
+        let walk = in_front(&own, others)?;
+        let checked = in_front(&own, checks)?;
         if walk.len() > MOST_CLASSES {
             return Err(OutOfMemory);
         }

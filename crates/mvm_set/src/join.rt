@@ -1,14 +1,12 @@
-ghost use Rattle.std.specs.Prelude.{◌≡◌, ℕ, [], ◌∷◌, ◌++◌, ◌||◌, not, if◌then◌else◌, map, List as Items, Option, Some, IfOk, OnOk};
-ghost use Rattle.std.specs.List.{filter};
+ghost use Rattle.std.specs.Prelude.{◌≡◌, ◌<◌, ℕ, [], ◌∷◌, ◌++◌, ◌||◌, ◌+◌, ◌&&◌, not, true, if◌then◌else◌, length, take, drop, map, List as Items, All, Option, Some, IfOk, OnOk};
 ghost use Rattle.mvm_shape.specs.Members.{same_text};
 ghost use Rattle.mvm_set.specs.ClassOf.{own_walk_name};
 ghost use Rattle.mvm_set.specs.Names.{own_name};
-ghost use Rattle.mvm_set.specs.Once.{once};
 ghost use Rattle.mvm_set.specs.Over.{file_of, others_than, own_of, lines_of, walks_of, checked_of};
-ghost use Rattle.mvm_set.specs.Seen.{is_seen};
+ghost use Rattle.mvm_set.specs.Seen.{is_seen, is_met, is_among, joined, IsOnce, AreSingle, Keeps};
 
 use crate::class::Class;
-use crate::names::{is_same, own_name};
+use crate::names::own_name;
 use crate::own::{Own, OwnWalk};
 use crate::shared::Shared;
 use mvm_base::{List, OutOfMemory};
@@ -16,74 +14,254 @@ use mvm_classfile::ClassFile;
 use std::alloc::Global;
 use std::collections::BTreeSet;
 
-/// Puts a name among those that were met, and says whether it is new there.
-fn meet<'a>(seen: &mut BTreeSet<&'a [u16]>, units: &'a [u16]) -> Result<bool, OutOfMemory>
-    ensures new { IfOk result (λ new. new ≡ not (is_seen seen.old (Some units.now))) }
-    ensures next { IfOk result (λ new. (other : Option (Items ℕ)) → is_seen seen.new other ≡ (is_seen seen.old other || same_text (Some units.now) other)) }
+/// Puts a name among others, and says whether it is new there.
+fn meet<'a>(names: &mut BTreeSet<&'a [u16]>, units: &'a [u16]) -> Result<bool, OutOfMemory>
+    ensures new { IfOk result (λ new. new ≡ not (is_seen names.old (Some units.now))) }
+    ensures next { IfOk result (λ new. (other : Option (Items ℕ)) → is_seen names.new other ≡ (is_seen names.old other || same_text (Some units.now) other)) }
 {
-    let is_new = seen.insert(units)?;
+    let is_new = names.insert(units)?;
     Ok(is_new)
 }
 
-/// The same of the class of a file. One without a name is new each time.
-fn meet_file<'a>(seen: &mut BTreeSet<&'a [u16]>, file: &'a ClassFile) -> Result<bool, OutOfMemory>
-    ensures new { IfOk result (λ new. new ≡ not (is_seen seen.old (own_name file.now))) }
-    ensures next { IfOk result (λ new. (other : Option (Items ℕ)) → is_seen seen.new other ≡ (is_seen seen.old other || same_text (own_name file.now) other)) }
+/// The same of the name of the class of a file, if it has one.
+fn meet_file<'a>(names: &mut BTreeSet<&'a [u16]>, file: &'a ClassFile) -> Result<(), OutOfMemory>
+    ensures { OnOk result ((other : Option (Items ℕ)) → is_seen names.new other ≡ (is_seen names.old other || same_text (own_name file.now) other)) }
 {
     match own_name(file) {
-        Some(name) => meet(seen, name.units()),
+        Some(name) => {
+            meet(names, name.units())?;
+            Ok(())
+        }
+        None => Ok(()),
+    }
+}
+
+/// The same of the classes of a list.
+fn meet_list<'a>(
+    names: &mut BTreeSet<&'a [u16]>,
+    owns: &'a [Shared<Own>],
+) -> Result<(), OutOfMemory>
+    ensures { OnOk result ((other : Option (Items ℕ)) → is_seen names.new other ≡ (is_seen names.old other || is_among other owns.now)) }
+{
+    for i in 0..owns.len() {
+        meet_file(names, owns[i].get().file())?;
+    }
+    Ok(())
+}
+
+/// The same of the classes of some lists.
+fn meet_lists<'a>(
+    names: &mut BTreeSet<&'a [u16]>,
+    lists: &[&'a [Shared<Own>]],
+) -> Result<(), OutOfMemory>
+    ensures { OnOk result ((other : Option (Items ℕ)) → is_seen names.new other ≡ (is_seen names.old other || is_among other (joined lists.now))) }
+{
+    for i in 0..lists.len() {
+        meet_list(names, lists[i])?;
+    }
+    Ok(())
+}
+
+/// The place of the longest of these lists, if there are any. No clause says that it is the longest: any place will do.
+fn longest(lists: &[&[Shared<Own>]]) -> usize
+    ensures { 0 < length lists.now → result < length lists.now }
+{
+    let mut place = 0;
+    for i in 0..lists.len() {
+        if lists[i].len() > lists[place].len() {
+            place = i;
+        }
+    }
+    place
+}
+
+/// The lists before a place.
+fn lists_before<'a, 'b>(lists: &'b [&'a [Shared<Own>]], place: usize) -> &'b [&'a [Shared<Own>]]
+    requires { place < length lists.now }
+    ensures { result.now ≡ take place lists.now }
+{
+    &lists[..place]
+}
+
+/// The lists behind a place.
+fn lists_behind<'a, 'b>(lists: &'b [&'a [Shared<Own>]], place: usize) -> &'b [&'a [Shared<Own>]]
+    requires { place < length lists.now }
+    ensures value { result.now ≡ drop (place + 1) lists.now }
+    ensures within { place < length lists.now }
+{
+    &lists[place + 1..]
+}
+
+/// The names that may stand twice in these lists, where each stands once in each of them, and that of a file: the names of all of them but the
+/// longest.
+fn repeats_of<'a>(
+    alloc: Global,
+    file: &'a ClassFile,
+    lists: &[&'a [Shared<Own>]],
+) -> Result<BTreeSet<&'a [u16]>, OutOfMemory>
+    requires { All IsOnce lists.now }
+    ensures file { IfOk result (λ repeats. (other : Option (Items ℕ)) → same_text (own_name file.now) other ≡ true → is_seen repeats other ≡ true) }
+    ensures single { IfOk result (λ repeats. AreSingle (is_seen repeats) (joined lists.now)) }
+{
+    let mut repeats = BTreeSet::new(alloc);
+    meet_file(&mut repeats, file)?;
+    if lists.is_empty() {
+        return Ok(repeats);
+    }
+    let place = longest(lists);
+    meet_lists(&mut repeats, lists_before(lists, place))?;
+    meet_lists(&mut repeats, lists_behind(lists, place))?;
+    Ok(repeats)
+}
+
+/// Whether a name was not met yet. One that does not stand twice is new each time.
+fn is_new<'a>(
+    repeats: &BTreeSet<&'a [u16]>,
+    seen: &mut BTreeSet<&'a [u16]>,
+    units: &'a [u16],
+) -> Result<bool, OutOfMemory>
+    ensures new { IfOk result (λ new. new ≡ not (is_met (is_seen repeats.now) (is_seen seen.old) (Some units.now))) }
+    ensures next { IfOk result (λ new. (other : Option (Items ℕ)) → is_met (is_seen repeats.now) (is_seen seen.new) other ≡ (is_met (is_seen repeats.now) (is_seen seen.old) other || (is_seen repeats.now (Some units.now) && same_text (Some units.now) other))) }
+{
+    if repeats.contains(units) {
+        meet(seen, units)
+    } else {
+        Ok(true)
+    }
+}
+
+/// The same of the name of the class of a file. One without a name is new each time.
+fn is_new_file<'a>(
+    repeats: &BTreeSet<&'a [u16]>,
+    seen: &mut BTreeSet<&'a [u16]>,
+    file: &'a ClassFile,
+) -> Result<bool, OutOfMemory>
+    ensures new { IfOk result (λ new. new ≡ not (is_met (is_seen repeats.now) (is_seen seen.old) (own_name file.now))) }
+    ensures next { IfOk result (λ new. (other : Option (Items ℕ)) → is_met (is_seen repeats.now) (is_seen seen.new) other ≡ (is_met (is_seen repeats.now) (is_seen seen.old) other || (is_seen repeats.now (own_name file.now) && same_text (own_name file.now) other))) }
+{
+    match own_name(file) {
+        Some(name) => is_new(repeats, seen, name.units()),
         None => Ok(true),
     }
 }
 
 /// Adds the class of a file at the end where its name is new.
 fn add_new<'a>(
+    repeats: &BTreeSet<&'a [u16]>,
     seen: &mut BTreeSet<&'a [u16]>,
-    others: &mut List<Shared<Own>>,
+    others: &mut Vec<Shared<Own>>,
     own: &'a Shared<Own>,
 ) -> Result<(), OutOfMemory>
-    ensures next { OnOk result ((other : Option (Items ℕ)) → is_seen seen.new other ≡ (is_seen seen.old other || same_text (own_walk_name own.now) other)) }
-    ensures kept { OnOk result (others.new ≡ (if is_seen seen.old (own_walk_name own.now) then others.old else others.old ++ own.now ∷ [])) }
+    ensures next { OnOk result ((other : Option (Items ℕ)) → is_met (is_seen repeats.now) (is_seen seen.new) other ≡ (is_met (is_seen repeats.now) (is_seen seen.old) other || (is_seen repeats.now (own_walk_name own.now) && same_text (own_walk_name own.now) other))) }
+    ensures kept { OnOk result (others.new.items ≡ (if is_met (is_seen repeats.now) (is_seen seen.old) (own_walk_name own.now) then others.old.items else others.old.items ++ own.now ∷ [])) }
 {
-    if meet_file(seen, own.get().file())? {
+    if is_new_file(repeats, seen, own.get().file())? {
         others.push(own.share()?)?;
     }
     Ok(())
 }
 
-/// Those of another class than the file's, each name once, at its first place.
+/// Adds the classes of a list at the end whose names are new.
+fn add_list<'a>(
+    repeats: &BTreeSet<&'a [u16]>,
+    seen: &mut BTreeSet<&'a [u16]>,
+    others: &mut Vec<Shared<Own>>,
+    owns: &'a [Shared<Own>],
+) -> Result<(), OutOfMemory>
+    ensures { OnOk result (Keeps (is_seen repeats.now) owns.now (is_seen seen.old) others.old.items (is_seen seen.new) others.new.items) }
+{
+    for i in 0..owns.len() {
+        add_new(repeats, seen, others, &owns[i])?;
+    }
+    Ok(())
+}
+
+/// Those of another class than the file's in these lists, each name once, at its first place. In each list each name stands once.
 fn others_than(
     alloc: Global,
     file: &ClassFile,
-    owns: &[Shared<Own>],
-) -> Result<List<Shared<Own>>, OutOfMemory>
-    ensures { IfOk result (λ others. others ≡ others_than file.now owns.now) }
+    lists: &[&[Shared<Own>]],
+) -> Result<Vec<Shared<Own>>, OutOfMemory>
+    requires { All IsOnce lists.now }
+    ensures { IfOk result (λ others. others.items ≡ others_than file.now (joined lists.now)) }
 {
+    let repeats = repeats_of(alloc, file, lists)?;
     let mut seen = BTreeSet::new(alloc);
-    let mut others = List::new(alloc);
+    let mut others = Vec::new(alloc);
     meet_file(&mut seen, file)?;
-    for i in 0..owns.len() {
-        add_new(&mut seen, &mut others, &owns[i])?;
+    for i in 0..lists.len() {
+        add_list(&repeats, &mut seen, &mut others, lists[i])?;
     }
     Ok(others)
 }
 
-/// The same of a list in which each name stands once already.
-fn others_among(
+/// Adds the walks of these classes at the end.
+fn add_walks<'a>(
+    lists: &mut Vec<&'a [Shared<Own>]>,
+    classes: &'a [Shared<Class>],
+) -> Result<(), OutOfMemory>
+    ensures joined { OnOk result (joined lists.new.items ≡ joined lists.old.items ++ walks_of classes.now) }
+    ensures once { OnOk result (All IsOnce lists.old.items → All IsOnce lists.new.items) }
+{
+    for i in 0..classes.len() {
+        lists.push(classes[i].get().walk())?;
+    }
+    Ok(())
+}
+
+/// Adds the orders of verification of these classes at the end.
+fn add_checked<'a>(
+    lists: &mut Vec<&'a [Shared<Own>]>,
+    classes: &'a [Shared<Class>],
+) -> Result<(), OutOfMemory>
+    ensures joined { OnOk result (joined lists.new.items ≡ joined lists.old.items ++ checked_of classes.now) }
+    ensures once { OnOk result (All IsOnce lists.old.items → All IsOnce lists.new.items) }
+{
+    for i in 0..classes.len() {
+        lists.push(classes[i].get().checked())?;
+    }
+    Ok(())
+}
+
+/// What stands in the walk of a file behind it: what its superinterfaces have, then what its superclass has.
+pub(crate) fn other_walks(
     alloc: Global,
     file: &ClassFile,
-    owns: &[Shared<Own>],
-) -> Result<List<Shared<Own>>, OutOfMemory>
-    requires { once own_walk_name owns.now ≡ owns.now }
-    ensures { IfOk result (λ others. others ≡ others_than file.now owns.now) }
+    above: &[Shared<Class>],
+    across: &[Shared<Class>],
+) -> Result<Vec<Shared<Own>>, OutOfMemory>
+    ensures { IfOk result (λ others. others.items ≡ others_than file.now (walks_of across.now ++ walks_of above.now)) }
 {
-    let mut others = List::new(alloc);
-    for i in 0..owns.len() {
-        if !is_same(owns[i].get().file(), file) {
-            others.push(owns[i].share()?)?;
-        }
-    }
-    Ok(others)
+    let mut lists = Vec::new(alloc);
+    add_walks(&mut lists, across)?;
+    add_walks(&mut lists, above)?;
+    others_than(alloc, file, lists.as_slice())
+}
+
+/// What stands in the order of verification behind a file: what its superclass has, then what its superinterfaces have.
+pub(crate) fn other_checked(
+    alloc: Global,
+    file: &ClassFile,
+    above: &[Shared<Class>],
+    across: &[Shared<Class>],
+) -> Result<Vec<Shared<Own>>, OutOfMemory>
+    ensures { IfOk result (λ others. others.items ≡ others_than file.now (checked_of above.now ++ checked_of across.now)) }
+{
+    let mut lists = Vec::new(alloc);
+    add_checked(&mut lists, above)?;
+    add_checked(&mut lists, across)?;
+    others_than(alloc, file, lists.as_slice())
+}
+
+/// The class at the front, and the others behind it.
+pub(crate) fn in_front(
+    own: &Shared<Own>,
+    mut others: Vec<Shared<Own>>,
+) -> Result<List<Shared<Own>>, OutOfMemory>
+    ensures { IfOk result (λ owns. owns ≡ own.now ∷ others.items) }
+{
+    others.insert(0, own.share()?)?;
+    Ok(List::from_vec(others))
 }
 
 /// Adds these at the end.
@@ -104,79 +282,6 @@ fn append_lines(onto: &mut List<Shared<Own>>, classes: &[Shared<Class>]) -> Resu
         append(onto, classes[i].get().line())?;
     }
     Ok(())
-}
-
-/// Adds the walks of these classes at the end.
-fn append_walks(onto: &mut List<Shared<Own>>, classes: &[Shared<Class>]) -> Result<(), OutOfMemory>
-    ensures { OnOk result (onto.new ≡ onto.old ++ walks_of classes.now) }
-{
-    for i in 0..classes.len() {
-        append(onto, classes[i].get().walk())?;
-    }
-    Ok(())
-}
-
-/// Adds the orders of verification of these classes at the end.
-fn append_checked(
-    onto: &mut List<Shared<Own>>,
-    classes: &[Shared<Class>],
-) -> Result<(), OutOfMemory>
-    ensures { OnOk result (onto.new ≡ onto.old ++ checked_of classes.now) }
-{
-    for i in 0..classes.len() {
-        append(onto, classes[i].get().checked())?;
-    }
-    Ok(())
-}
-
-/// What stands in the walk of a file behind it: what its superinterfaces have, then what its superclass has.
-pub(crate) fn other_walks(
-    alloc: Global,
-    file: &ClassFile,
-    above: &[Shared<Class>],
-    across: &[Shared<Class>],
-) -> Result<List<Shared<Own>>, OutOfMemory>
-    ensures { IfOk result (λ others. others ≡ others_than file.now (walks_of across.now ++ walks_of above.now)) }
-{
-    if let ([superclass], []) = (above, across) {
-        return others_among(alloc, file, superclass.get().walk());
-    }
-    let mut all = List::new(alloc);
-    append_walks(&mut all, across)?;
-    append_walks(&mut all, above)?;
-    others_than(alloc, file, all.as_slice())
-}
-
-/// What stands in the order of verification behind a file: what its superclass has, then what its superinterfaces have.
-pub(crate) fn other_checked(
-    alloc: Global,
-    file: &ClassFile,
-    above: &[Shared<Class>],
-    across: &[Shared<Class>],
-) -> Result<List<Shared<Own>>, OutOfMemory>
-    ensures { IfOk result (λ others. others ≡ others_than file.now (checked_of above.now ++ checked_of across.now)) }
-{
-    if let ([superclass], []) = (above, across) {
-        return others_among(alloc, file, superclass.get().checked());
-    }
-    let mut all = List::new(alloc);
-    append_checked(&mut all, above)?;
-    append_checked(&mut all, across)?;
-    others_than(alloc, file, all.as_slice())
-}
-
-/// The class at the front, and the others behind it.
-pub(crate) fn in_front(
-    alloc: Global,
-    own: &Shared<Own>,
-    others: &[Shared<Own>],
-) -> Result<List<Shared<Own>>, OutOfMemory>
-    ensures { IfOk result (λ owns. owns ≡ own.now ∷ others.now) }
-{
-    let mut owns = List::new(alloc);
-    owns.push(own.share()?)?;
-    append(&mut owns, others)?;
-    Ok(owns)
 }
 
 /// The class at the front of the lines of the classes above it.

@@ -10,6 +10,7 @@
 mod access;
 mod class;
 mod fault;
+mod field_places;
 mod fields;
 mod found;
 mod index;

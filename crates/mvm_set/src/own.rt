@@ -1,6 +1,8 @@
-ghost use Rattle.std.specs.Prelude.{◌≡◌, IfOk};
+ghost use Rattle.std.specs.Prelude.{◌≡◌, false, IfOk};
+ghost use Rattle.mvm_set.specs.FieldPlaces.{count_of, fields_before, ArePlaces};
 ghost use Rattle.mvm_set.specs.Members.{field_at, method_at, flags_at};
 
+use crate::field_places::FieldPlaces;
 use crate::index::Index;
 use crate::shared::Shared;
 use mvm_base::{List, Name, OutOfMemory};
@@ -18,22 +20,31 @@ pub struct OwnWalk {
     pub walk: List<Shared<ClassFile>>,
 }
 
-/// A file with the walk of its own class, and an index of the file's members.
+/// A file with the walk of its own class, an index of the file's members, and its fields counted by sort.
 #[derive(Debug, Drop)]
 pub struct Own {
     own: OwnWalk,
     index: Index,
+    places: FieldPlaces,
 }
 
 impl Model for Own {
     ghost use Rattle.mvm_set.specs.declared.own.OwnWalk.{OwnWalk as OwnWalkOf};
+    ghost use Rattle.mvm_set.specs.FieldPlaces.{ArePlaces};
     ghost use Rattle.mvm_set.specs.IndexOf.{IsIndexOf};
 
     ghost Value = { OwnWalkOf };
 
     ghost view = { λ o. o.own };
 
-    ghost invariant = { λ o. IsIndexOf o.own.file o.index };
+    ghost invariant = { λ o. IsIndexOf o.own.file o.index × ArePlaces o.own.file.fields o.places };
+}
+
+/// The fields of a file, counted by sort.
+fn field_places(alloc: Global, file: &ClassFile) -> Result<FieldPlaces, OutOfMemory>
+    ensures { IfOk result (λ places. ArePlaces file.now.fields places) }
+{
+    FieldPlaces::new(alloc, file.parts().fields.as_slice())
 }
 
 impl Own {
@@ -41,7 +52,8 @@ impl Own {
         ensures { IfOk result (λ made. made ≡ own) }
     {
         let index = Index::new(alloc, own.file.get())?;
-        Ok(Own { own, index })
+        let places = field_places(alloc, own.file.get())?;
+        Ok(Own { own, index, places })
     }
 
     /// The file, as one owner of it.
@@ -93,5 +105,21 @@ impl Own {
             },
             None => None,
         }
+    }
+
+    /// How many fields of the same sort, static fields or instance fields, stand before the field of this place in the list of the file's
+    /// fields (JVM Specification 4.5), or `None` where the file has no field of this place.
+    #[tactic(auto, unfolding(crate::specs::FieldPlaces::fields_before))]
+    pub fn fields_before(&self, index: u16) -> Option<u16>
+        ensures { result ≡ fields_before self.now.file.fields index }
+    {
+        self.places.before(index)
+    }
+
+    /// How many instance fields the file has (JVM Specification 4.5).
+    pub fn instance_fields(&self) -> u16
+        ensures { result ≡ count_of false self.now.file.fields }
+    {
+        self.places.instance()
     }
 }

@@ -12,7 +12,9 @@ mod Lineages
 mod Supers
 mod Standing
 mod Going
-mod Sources
+mod FieldSlots
+mod BytesByPlace
+mod Distinct
 mod Read
 mod Starting
 mod Stepping

@@ -1,4 +1,5 @@
 pub mod Files
+pub mod Sources
 pub mod Load
 pub mod Loads
 pub mod Contents

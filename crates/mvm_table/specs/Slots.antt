@@ -1,21 +1,12 @@
 -- The slot of a field: where its value stands, among those of its class or of an object.
-use Rattle.std.specs.Prelude.{ℕ, ◌+◌, List, [], ◌∷◌, take, length, sum_by, Bool, true, false, not, if◌then◌else◌, Option, Some, None, slice_get}
-use Rattle.std.specs.List.{filter}
+use Rattle.std.specs.Prelude.{ℕ, ◌+◌, List, [], ◌∷◌, take, sum_by, Bool, true, false, if◌then◌else◌, Option, Some, None, slice_get}
 use Rattle.mvm_layout.specs.Flags.{is_static}
 use Rattle.mvm_layout.specs.declared.parts.Member.{Member}
 use Rattle.mvm_layout.specs.declared.parts.Parts.{Parts}
+use Rattle.mvm_set.specs.FieldPlaces.{count_of}
 use Rattle.mvm_set.specs.Names.{is_same}
 use Rattle.mvm_set.specs.declared.class.Lineage.{Lineage}
 use Rattle.mvm_set.specs.declared.own.OwnWalk.{OwnWalk}
-
--- a field is static, or is not
-abbrev pub is_of : Bool → Member → Bool
-is_of true field = is_static field.flags
-is_of false field = not (is_static field.flags)
-
--- how many fields are static, or are not
-abbrev pub count_of : Bool → List Member → ℕ
-count_of statics fields = length (filter (is_of statics) fields)
 
 -- how many instance fields these classes declare
 abbrev pub instance_fields : List OwnWalk → ℕ

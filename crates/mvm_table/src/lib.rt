@@ -25,6 +25,7 @@ mod resolved;
 mod shelf;
 mod slots;
 mod source;
+mod sources;
 mod table;
 
 pub use fault::LoadFault;

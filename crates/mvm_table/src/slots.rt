@@ -1,42 +1,11 @@
-ghost use Rattle.std.specs.Prelude.{◌≡◌, length, take, IfSome};
+ghost use Rattle.std.specs.Prelude.{◌≡◌, take, slice_get, IfSome};
 ghost use Rattle.std.specs.Option.{option_copied};
-ghost use Rattle.mvm_table.specs.Slots.{is_of, count_of, instance_fields, above, before, is_static_field, slot_of};
+ghost use Rattle.mvm_set.specs.FieldPlaces.{count_of};
+ghost use Rattle.mvm_table.specs.Slots.{instance_fields, above, before, is_static_field, slot_of};
 
-use mvm_base::List;
 use mvm_classfile::{ClassFile, Member};
 use mvm_layout::flags::is_static;
 use mvm_set::{Class, Own, Shared, is_same};
-
-/// Whether a field is static, or is not.
-fn is_of(statics: bool, field: &Member) -> bool
-    ensures { result ≡ is_of statics field.now }
-{
-    if statics {
-        is_static(field.flags)
-    } else {
-        !is_static(field.flags)
-    }
-}
-
-/// How many fields are static, or are not.
-fn count_of(statics: bool, fields: &[Member]) -> usize
-    ensures { result ≡ count_of statics fields.now }
-{
-    fields.iter().filter(|field| is_of(statics, field)).count()
-}
-
-/// The fields before a place.
-fn first_fields(fields: &List<Member>, index: u16) -> &[Member]
-    ensures { result.now ≡ take index fields.now }
-{
-    let end = usize::from(index);
-    let fields = fields.as_slice();
-    if end < fields.len() {
-        &fields[..end]
-    } else {
-        fields
-    }
-}
 
 /// How many instance fields these classes declare, if a usize can count them.
 fn instance_fields(owns: &[Shared<Own>]) -> Option<usize>
@@ -44,8 +13,7 @@ fn instance_fields(owns: &[Shared<Own>]) -> Option<usize>
 {
     let mut count: usize = 0;
     for i in 0..owns.len() {
-        let fields = owns[i].get().file().parts().fields.as_slice();
-        match count.checked_add(count_of(false, fields)) {
+        match count.checked_add(usize::from(owns[i].get().instance_fields())) {
             Some(sum) => count = sum,
             None => return None,
         }
@@ -65,24 +33,36 @@ fn above<'a>(file: &ClassFile, line: &'a [Shared<Own>]) -> &'a [Shared<Own>]
     &line[..0]
 }
 
-/// How many fields stand before a field in the list where its slot is its place, if a usize can count them.
-fn before(class: &Class, holder: &Own, index: u16, statics: bool) -> Option<usize>
-    ensures { IfSome result (λ count. count ≡ before class.now holder.now index statics) }
-{
-    let own = count_of(statics, first_fields(&holder.file().parts().fields, index));
-    if statics {
-        Some(own)
-    } else {
-        instance_fields(above(holder.file(), class.line()))?.checked_add(own)
-    }
-}
-
 fn is_static_field(field: Option<&Member>) -> bool
     ensures { result ≡ is_static_field (option_copied field.entry) }
 {
     match field {
         Some(field) => is_static(field.flags),
         None => false,
+    }
+}
+
+/// How many fields of its own sort stand before the field of a place in its file; all instance fields, where the file has no field of that
+/// place.
+#[tactic(auto, using(crate::proofs::FieldSlots::before_place, crate::proofs::FieldSlots::behind_all))]
+fn before_in(holder: &Own, index: u16) -> u16
+    ensures { result ≡ count_of (is_static_field (slice_get holder.now.file.fields index)) (take index holder.now.file.fields) }
+{
+    match holder.fields_before(index) {
+        Some(before) => before,
+        None => holder.instance_fields(),
+    }
+}
+
+/// How many fields stand before a field in the list where its slot is its place, if a usize can count them.
+fn before(class: &Class, holder: &Own, index: u16) -> Option<usize>
+    ensures { IfSome result (λ count. count ≡ before class.now holder.now index (is_static_field (slice_get holder.now.file.fields index))) }
+{
+    let own = usize::from(before_in(holder, index));
+    if is_static_field(holder.file().parts().fields.get(usize::from(index))) {
+        Some(own)
+    } else {
+        instance_fields(above(holder.file(), class.line()))?.checked_add(own)
     }
 }
 
@@ -93,8 +73,7 @@ fn is_static_field(field: Option<&Member>) -> bool
 pub(crate) fn slot_of(class: &Class, holder: &Own, index: u16) -> Option<u32>
     ensures { IfSome result (λ slot. slot ≡ slot_of class.now holder.now index) }
 {
-    let field = holder.file().parts().fields.get(usize::from(index));
-    let before = before(class, holder, index, is_static_field(field))?;
+    let before = before(class, holder, index)?;
     if before > 0xFFFF_FFFF {
         None
     } else {

@@ -9,6 +9,7 @@ ghost use Rattle.mvm_table.specs.NameMap.{row};
 use crate::built_in::with_builtins;
 use crate::name_map::NameMap;
 use crate::source::SourceRow;
+use crate::sources::Sources;
 use mvm_base::{List, Name, OutOfMemory};
 use mvm_set::{Class, ClassSet, Shared};
 use std::alloc::Global;
@@ -21,7 +22,7 @@ use std::sync::ledger::Blank;
 #[derive(Drop)]
 pub struct Table {
     pub(crate) alloc: Global,
-    pub(crate) sources: List<SourceRow>,
+    pub(crate) sources: Sources,
     pub(crate) sets: List<ClassSet>,
     pub(crate) shelves: Vec<NameMap<Shared<Class>>>,
     pub(crate) decoded: AtomicU64,
@@ -40,7 +41,7 @@ impl Model for Table {
 }
 
 impl Table {
-    /// The table of these sources and sets. The built-in classes stand on the shelf of each set.
+    /// The table of these sources and sets. The built-in classes stand on the shelf of each set. Of sources with equal bytes one is kept.
     ///
     /// # Errors
     ///
@@ -56,6 +57,7 @@ impl Table {
         // The built-in classes stand on all shelves.
         ensures builtins { IfOk result (λ table. (set : ℕ) → set < length table.files → HasBuiltins table set) }
     {
+        let sources = Sources::new(alloc, sources)?;
         let shelves = empty_shelves(alloc, sets.len())?;
         let table = Table {
             alloc,
@@ -117,21 +119,19 @@ fn empty_shelves(alloc: Global, count: usize) -> Result<Vec<NameMap<Shared<Class
     Ok(shelves)
 }
 
-/// The bytes of a source. None has no other number than its place.
-fn bytes_at(sources: &List<SourceRow>, place: u32) -> &[u8]
+/// The bytes of a source.
+#[tactic(auto, using(crate::proofs::Distinct::short_bytes))]
+fn bytes_at(sources: &Sources, place: u32) -> &[u8]
     requires { AreShort sources.now }
     ensures value { result.now ≡ bytes_at sources.now place }
     ensures short { length result.now < 2 ^ 32 }
 {
-    match sources.get(place as usize) {
-        Some(source) => source.bytes.as_slice(),
-        None => &[],
-    }
+    sources.bytes(place)
 }
 
 /// The bytes of the class of a name, by the number of its source.
 fn bytes_in<'a>(
-    sources: &'a List<SourceRow>,
+    sources: &'a Sources,
     sets: &List<ClassSet>,
     set: u32,
     name: &Name,

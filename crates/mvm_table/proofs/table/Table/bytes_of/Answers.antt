@@ -1,7 +1,7 @@
 use Rattle.std.proofs.Common.{ap, sym, ◌∙◌}
 use Rattle.mvm_table.specs.Contents.{Contents}
 use Rattle.mvm_table.specs.Files.{files_in, bytes_of}
-use Rattle.mvm_table.proofs.Sources.{bytes_in_table}
+use Rattle.mvm_table.proofs.BytesByPlace.{bytes_in_table}
 use Rattle.mvm_table.proofs.table.Table.bytes_of.Goals as goal
 
 pub returns-clause-value : goal.returns-clause-value

@@ -1,0 +1,7 @@
+use Rattle.std.proofs.Common.{◌≡◌, ℕ, List, Option, drop}
+use Rattle.std.specs.Prelude.{◌||◌}
+use Rattle.mvm_set.specs.Seen.{is_seen, is_among}
+use Rattle.mvm_set.proofs.join.meet_list.Given as goal
+
+abbrev pub invariant-loop-i : goal.invariant-loop-i
+invariant-loop-i l = (other : Option (List ℕ)) → (is_seen l.names other || is_among other (drop l.i l.owns)) ≡ (is_seen l.initial.names other || is_among other l.owns)
