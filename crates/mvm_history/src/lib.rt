@@ -1,4 +1,4 @@
-//! Isolate: what an isolate is launched with, the limits it runs under, what it sends and asks, and how it ends.
+//! Memory: what an isolate is launched with, the limits it runs under, what it sends and asks, and how it ends.
 //!
 //! To the layers above it promises: these are plain values, with their ranges in their documents. [`Limits::defaults`] are the
 //! limits of an isolate for which none are named, and [`Limits::are_allowed`] tells exactly whether each limit is in its range.

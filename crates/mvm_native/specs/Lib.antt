@@ -1,0 +1,13 @@
+pub mod Machine
+pub mod Arguments
+pub mod Texts
+pub mod Objects
+pub mod Strings
+pub mod Builders
+pub mod Prints
+pub mod Integers
+pub mod Threads
+pub mod Throwables
+pub mod Isolates
+pub mod Links
+pub mod Calls

@@ -1,0 +1,31 @@
+//! Step: what the native methods of the built-in classes do.
+//!
+//! To the layer above it promises: [`call`] answers what the definition `called` of `specs/Calls.antt` gives for the native method
+//! of a number, and leaves of the isolate what that definition leaves; or memory ran out, and all is as before. The definition has
+//! a line for each method, in the terms of the Java SE 8 API. A method that wants more words than the heap has left throws
+//! OutOfMemoryError, and one that would print more than the limit ends the isolate; both change nothing. What a thread has to do
+//! beyond its isolate's objects and output (start, join, wait, wake others, send, ask) is in the answer, [`Out`], and is done by
+//! who called.
+#![tactic(auto)]
+
+mod arguments;
+mod calls;
+mod characters;
+mod env;
+mod integer;
+mod isolate;
+mod laws;
+mod link;
+mod object;
+mod out;
+mod print_stream;
+mod string;
+mod string_builder;
+mod texts;
+mod thread;
+mod throwable;
+
+pub use calls::call;
+pub use env::{Env, LinkUse};
+pub use laws::native_law;
+pub use out::{Act, Out, Thrown};
