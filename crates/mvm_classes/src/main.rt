@@ -12,6 +12,8 @@ ghost use Rattle.std.specs.Prelude.{◌≡◌, ◌<◌, length};
 
 #[cfg(test)]
 mod assembled;
+#[cfg(test)]
+mod class_rows;
 mod entries;
 mod files;
 mod finding;
