@@ -4,13 +4,21 @@
 //!
 //! Behind the word `--first` it tells of the first class alone. Behind `--times` and a number it tells nothing: it puts the classes on the
 //! shelf, and asks so many times for the first and for what its entries stand for.
+//!
+//! Its tests are those of the crates for classes by name.
 #![tactic(auto)]
 
 ghost use Rattle.std.specs.Prelude.{◌≡◌, ◌<◌, length};
 
+#[cfg(test)]
+mod assembled;
+#[cfg(test)]
+mod class_rows;
 mod entries;
 mod files;
 mod finding;
+#[cfg(test)]
+mod looked_up;
 mod measure;
 mod refusal;
 mod set_files;
