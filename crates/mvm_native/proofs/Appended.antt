@@ -12,7 +12,7 @@ use Rattle.mvm_heap.specs.declared.kind.ObjectKind.{ObjectKind}
 use Rattle.mvm_heap.specs.declared.kind.ObjectKind.TheVariants as sort
 use Rattle.mvm_heap.specs.Heap.{nothing, number_at, object_at, placed, put, written, zeros}
 use Rattle.mvm_heap.specs.Objects.{Object, State}
-use Rattle.mvm_heap.specs.Sorts.{kept, word_of}
+use Rattle.mvm_heap.specs.Sorts.{bits_of, kept, word_of}
 use Rattle.mvm_native.specs.Builders.{array_of, begun, begun_in, built, chars_in, count_of, holding, append, array_for, as_word, init_builder, new_array, rebuilt, HasArray, Holds, IsBuilder}
 use Rattle.mvm_native.specs.Throwables.{HasTwo}
 use Rattle.mvm_native.proofs.Builders.{begun_object, begun_count, begun_two}
@@ -20,7 +20,7 @@ use Rattle.mvm_native.specs.declared.out.Out.{Out}
 use Rattle.mvm_native.specs.declared.out.Out.TheVariants.{Value, Throw}
 use Rattle.mvm_native.specs.declared.out.Thrown.TheVariants.{OutOfMemoryError}
 use Rattle.mvm_native.specs.Machine.{Machine}
-use Rattle.mvm_native.proofs.Objects.{array_there, new_object, old_two, placed_is, two_there, two_written}
+use Rattle.mvm_native.proofs.Objects.{array_there, new_object, old_object, old_two, placed_is, two_there, two_written}
 
 -- ---- two fields written
 
@@ -176,3 +176,41 @@ appended_holds n units m new value b f =
 pub new_holds : (n : ℕ) (m new : Machine) (value : Option Word) → HasTwo m.heap.objects n → length m.heap.objects < 2 ^ 32 → init_builder n m ≡ (Value value, new) → Holds new.heap.objects n []
 unfolding init_builder
 new_holds n m new value t f e = new_held n 16 [] None value m new _ t (omega arith) f refl e
+
+-- ---- the other objects
+
+begun_other : (os : List Object) (w : Word) (us : List ℕ) (k : ℕ) → w ≢ Ref k → object_at (begun_in os w us) k ≡ object_at os k
+unfolding begun
+begun_other os (Ref a) us k h = get_or-set_other os a k (record (object_at os a) { contents = us ++ drop (length us) (object_at os a).contents }) nothing (λ e. h (ap (λ (j : ℕ). Ref j) (sym e)))
+begun_other os (Int j) us k h = refl
+begun_other os (Long j) us k h = refl
+begun_other os Null us k h = refl
+
+same_number : (a k : ℕ) → Ref a ≡ Ref k → a ≡ k
+same_number a k e = cc
+
+new_other : (n size k : ℕ) (us : List ℕ) (v value : Option Word) (m new : Machine) (r : Result (ℕ × State) AllocFault) → k < length m.heap.objects → k ≢ n
+    → placed (zeros (sort.Array Char) 0 size) m.heap ≡ r → rebuilt n us v (as_word r) m ≡ (Value value, new) → object_at new.heap.objects k ≡ object_at m.heap.objects k
+new_other n size k us v value m new (Err fault) l h p e = absurd (no_value m new value e)
+new_other n size k us v value m new (Ok x) l h p e =
+    let z : Object = zeros (sort.Array Char) 0 size in
+    let place : x.0 ≡ length m.heap.objects = (placed_is z m.heap x.0 x.1 p).0 in
+    ap (λ (os : List Object). object_at os k) (left (Value v) (Value value) _ new e)
+    ∙ other_held (begun x.1.objects x.0 us) n (x.0 + 1) (length us) k h
+    ∙ begun_other x.1.objects (Ref x.0) us k (λ q. omega (arith, l, place, same_number x.0 k q))
+    ∙ old_object z m.heap x.0 x.1 k p l
+
+pub appended_others : (n k : ℕ) (units : List ℕ) (m new : Machine) (value : Option Word) → k < length m.heap.objects → k ≢ n → array_of m.heap.objects n ≢ Ref k → append n units m ≡ (Value value, new)
+    → object_at new.heap.objects k ≡ object_at m.heap.objects k
+unfolding append array_for
+appended_others n k units m new value l h a =
+    let os : List Object = m.heap.objects in
+    let whole : List ℕ = built os n ++ units in
+    let room : ℕ = length (chars_in os (array_of os n)) in
+    let P : Bool → Type 0 = λ t. rebuilt n whole (Some (Ref n)) (cond {A = Result (Word × State) AllocFault} t (Ok (array_of os n, m.heap)) (new_array (max (2 * room + 2) (length whole)) m.heap)) m ≡ (Value value, new)
+    → object_at new.heap.objects k ≡ object_at os k in
+    elim (nat_le (length whole) room) as P [
+      | true ↦ λ e. ap (λ (xs : List Object). object_at xs k) (left (Value (Some (Ref n))) (Value value) _ new e)
+          ∙ other_held (begun_in os (array_of os n) whole) n (bits_of (array_of os n)) (length whole) k h ∙ begun_other os (array_of os n) whole k a
+      | false ↦ λ e. new_other n (max (2 * room + 2) (length whole)) k whole (Some (Ref n)) value m new _ l h refl e
+    ]

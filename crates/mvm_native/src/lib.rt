@@ -28,4 +28,6 @@ mod throwable;
 pub use calls::call;
 pub use env::{Env, LinkUse};
 pub use laws::{builder_law, native_law};
+pub use link::{End, Sendable};
 pub use out::{Act, Out, Thrown};
+pub use texts::ValueKind;
