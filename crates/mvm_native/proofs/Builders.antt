@@ -18,7 +18,7 @@ use Rattle.mvm_native.proofs.Objects.{shape, sorts}
 
 -- ---- the loop that fills
 
-begun_object : (os : List Object) (a : ℕ) (us : List ℕ) → a < length os → object_at (begun os a us) a ≡ record (object_at os a) { contents = us ++ drop (length us) (object_at os a).contents }
+pub begun_object : (os : List Object) (a : ℕ) (us : List ℕ) → a < length os → object_at (begun os a us) a ≡ record (object_at os a) { contents = us ++ drop (length us) (object_at os a).contents }
 unfolding begun
 begun_object os a us h = get_or-set_same os a _ nothing h
 
@@ -49,7 +49,7 @@ begun_next os a us place u h s e p f =
     rw (e, get_or-set_same os a o nothing h, set-set os a o (put o (length us) u))
     (ap (λ (xs : List ℕ). set os a (record (object_at os a) { contents = xs })) (ap (λ (v : ℕ). set o.contents (length us) v) (char_kept (object_at os a).sort u s f) ∙ next_contents (object_at os a).contents us u (omega (arith, e, p))))
 
-begun_count : (cs us : List ℕ) → length us ≤ length cs → length (us ++ drop (length us) cs) ≡ length cs
+pub begun_count : (cs us : List ℕ) → length us ≤ length cs → length (us ++ drop (length us) cs) ≡ length cs
 begun_count cs us h = length-append us (drop (length us) cs) ∙ ap (λ (k : ℕ). length us + k) (length-drop (length us) cs) ∙ omega (arith, h)
 
 pub begun_shape : (os : List Object) (a : ℕ) (us : List ℕ) (m : ℕ) → length us ≤ length (object_at os a).contents → length (object_at (begun os a us) m).contents ≡ length (object_at os m).contents

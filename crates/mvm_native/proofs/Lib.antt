@@ -4,3 +4,4 @@ pub mod Capped
 pub mod Objects
 pub mod Builders
 pub mod Inverse
+pub mod Appended

@@ -93,3 +93,10 @@ builder_length n m = gives_number (count_of m.heap.objects n)
 -- toString: a new text
 unfoldable pub builder_to_string : ℕ → Machine → Out × Machine
 builder_to_string n m = made (placed (text (built m.heap.objects n)) m.heap) m
+
+-- ---- what that means
+
+-- it is a builder, and has these units
+pub record Holds (os : List Object) (n : ℕ) (us : List ℕ) : Type 0 where
+  pub builder : IsBuilder os n
+  pub units : built os n ≡ us

@@ -1,6 +1,13 @@
-ghost use Rattle.std.specs.Prelude.{◌≡◌, ◌∷◌, ◌<◌, ◌^◌, ℕ, ℤ, pos, decimal, true, Some};
+ghost use Rattle.std.specs.Prelude.{◌≡◌, ◌≢◌, [], ◌∷◌, ◌++◌, ◌<◌, ◌^◌, length, List, Option, ℕ, ℤ, pos, decimal, true, Some};
 ghost use Rattle.std.specs.Fmt.{signed_decimal};
+ghost use Rattle.mvm_base.specs.declared.value.Word.{Word};
+ghost use Rattle.mvm_base.specs.declared.value.Word.TheVariants.{Ref};
+ghost use Rattle.mvm_heap.specs.Heap.{object_at};
+ghost use Rattle.mvm_native.specs.Builders.{append, array_of, built, init_builder, Holds, IsBuilder};
 ghost use Rattle.mvm_native.specs.Integers.{is_int, parsed, PLUS};
+ghost use Rattle.mvm_native.specs.Machine.{Machine};
+ghost use Rattle.mvm_native.specs.Throwables.{HasTwo};
+ghost use Rattle.mvm_native.specs.declared.out.Out.TheVariants.{Value};
 
 /// What holds of the texts of numbers.
 pub fn native_law()
@@ -8,4 +15,14 @@ pub fn native_law()
     ensures inverse { (value : ℤ) → is_int value ≡ true → parsed (signed_decimal value) ≡ Some value }
     // also where a plus sign stands before one that is not below 0.
     ensures plus { (value : ℕ) → value < 2 ^ 31 → parsed (PLUS ∷ decimal value) ≡ Some (pos value) }
+{}
+
+/// What holds of a StringBuilder, whatever array it has.
+pub fn builder_law()
+    // A new one has no units.
+    ensures begun { (n : ℕ) (m new : Machine) (value : Option Word) → HasTwo m.heap.objects n → length m.heap.objects < 2 ^ 32 → init_builder n m ≡ (Value value, new) → Holds new.heap.objects n [] }
+    // One that was appended to has the units that it had, and the others behind them.
+    ensures appended { (n : ℕ) (units : List ℕ) (m new : Machine) (value : Option Word) → IsBuilder m.heap.objects n → length m.heap.objects < 2 ^ 32 → append n units m ≡ (Value value, new) → Holds new.heap.objects n (built m.heap.objects n ++ units) }
+    // The other objects are as they were, but for its array.
+    ensures others { (n k : ℕ) (units : List ℕ) (m new : Machine) (value : Option Word) → k < length m.heap.objects → k ≢ n → array_of m.heap.objects n ≢ Ref k → append n units m ≡ (Value value, new) → object_at new.heap.objects k ≡ object_at m.heap.objects k }
 {}

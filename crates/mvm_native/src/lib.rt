@@ -5,7 +5,7 @@
 //! a line for each method, in the terms of the Java SE 8 API. A method that wants more words than the heap has left throws
 //! OutOfMemoryError, and one that would print more than the limit ends the isolate; both change nothing. What a thread has to do
 //! beyond its isolate's objects and output (start, join, wait, wake others, send, ask) is in the answer, [`Out`], and is done by
-//! who called.
+//! who called. [`native_law`] and [`builder_law`] say what parseInt and StringBuilder do in other words than their definitions.
 #![tactic(auto)]
 
 mod arguments;
@@ -27,5 +27,7 @@ mod throwable;
 
 pub use calls::call;
 pub use env::{Env, LinkUse};
-pub use laws::native_law;
+pub use laws::{builder_law, native_law};
+pub use link::{End, Sendable};
 pub use out::{Act, Out, Thrown};
+pub use texts::ValueKind;
