@@ -41,7 +41,7 @@ pub fn class_of(alloc: Global, table: &Table, name: &str) -> Result<Shared<Class
 }
 
 /// How many classes the line of a class has: itself, and its superclasses.
-pub fn line_length(alloc: Global, table: &Table, name: &str) -> Result<usize, LoadFault>
+pub(crate) fn line_length(alloc: Global, table: &Table, name: &str) -> Result<usize, LoadFault>
     requires { 0 < length table.now.files }
 {
     let class = class_of(alloc, table, name)?;
@@ -49,7 +49,7 @@ pub fn line_length(alloc: Global, table: &Table, name: &str) -> Result<usize, Lo
 }
 
 /// How many classes the walk of a class has: itself, and all that it inherits from.
-pub fn walk_length(alloc: Global, table: &Table, name: &str) -> Result<usize, LoadFault>
+pub(crate) fn walk_length(alloc: Global, table: &Table, name: &str) -> Result<usize, LoadFault>
     requires { 0 < length table.now.files }
 {
     let class = class_of(alloc, table, name)?;
@@ -57,7 +57,12 @@ pub fn walk_length(alloc: Global, table: &Table, name: &str) -> Result<usize, Lo
 }
 
 /// Whether a class is the class `above`, or inherits from it.
-pub fn is_under(alloc: Global, table: &Table, name: &str, above: &str) -> Result<bool, LoadFault>
+pub(crate) fn is_under(
+    alloc: Global,
+    table: &Table,
+    name: &str,
+    above: &str,
+) -> Result<bool, LoadFault>
     requires { 0 < length table.now.files }
 {
     let class = class_of(alloc, table, name)?;
@@ -66,7 +71,7 @@ pub fn is_under(alloc: Global, table: &Table, name: &str, above: &str) -> Result
 }
 
 /// Whether a class may use a member of these flags of the class `holder`.
-pub fn may_use(
+pub(crate) fn may_use(
     alloc: Global,
     table: &Table,
     name: &str,
@@ -81,7 +86,7 @@ pub fn may_use(
 }
 
 /// Whether a class stands on the shelf.
-pub fn is_shelved(alloc: Global, table: &Table, name: &str) -> Result<bool, LoadFault>
+pub(crate) fn is_shelved(alloc: Global, table: &Table, name: &str) -> Result<bool, LoadFault>
     requires { 0 < length table.now.files }
 {
     let class = class_of(alloc, table, name)?;
@@ -114,7 +119,7 @@ fn linked_counted<L: Ledger>(
 }
 
 /// The first fault of linking a class.
-pub fn linked(alloc: Global, table: &Table, name: &str) -> Result<(), LoadFault>
+pub(crate) fn linked(alloc: Global, table: &Table, name: &str) -> Result<(), LoadFault>
     requires { 0 < length table.now.files }
 {
     let class = class_of(alloc, table, name)?;
@@ -154,7 +159,12 @@ fn method_told(
 }
 
 /// The int field of a name in a class.
-pub fn field(alloc: Global, table: &Table, class: &str, name: &str) -> Result<String, LoadFault>
+pub(crate) fn field(
+    alloc: Global,
+    table: &Table,
+    class: &str,
+    name: &str,
+) -> Result<String, LoadFault>
     requires { 0 < length table.now.files }
 {
     let class = class_of(alloc, table, class)?;
@@ -165,7 +175,7 @@ pub fn field(alloc: Global, table: &Table, class: &str, name: &str) -> Result<St
 }
 
 /// A method of a class, as that of a class.
-pub fn method(
+pub(crate) fn method(
     alloc: Global,
     table: &Table,
     class: &str,
@@ -182,7 +192,7 @@ pub fn method(
 }
 
 /// A method of a class, as that of an interface.
-pub fn interface_method(
+pub(crate) fn interface_method(
     alloc: Global,
     table: &Table,
     class: &str,
@@ -223,7 +233,7 @@ fn resolved(
 }
 
 /// What `invokevirtual` selects in a class, of the method that the class `holder` has.
-pub fn selected(
+pub(crate) fn selected(
     alloc: Global,
     table: &Table,
     class: &str,
@@ -239,7 +249,7 @@ pub fn selected(
 }
 
 /// The same of `invokeinterface`.
-pub fn interface_selected(
+pub(crate) fn interface_selected(
     alloc: Global,
     table: &Table,
     class: &str,
@@ -255,7 +265,7 @@ pub fn interface_selected(
 }
 
 /// The same of `invokespecial`.
-pub fn selected_from(
+pub(crate) fn selected_from(
     alloc: Global,
     table: &Table,
     start: &str,
@@ -308,7 +318,12 @@ fn entry_of(table: &Table, class: &Shared<Class>, index: u16) -> Result<Resolved
 }
 
 /// The same of the class of a name, as text.
-pub fn entry(alloc: Global, table: &Table, class: &str, index: u16) -> Result<String, LoadFault>
+pub(crate) fn entry(
+    alloc: Global,
+    table: &Table,
+    class: &str,
+    index: u16,
+) -> Result<String, LoadFault>
     requires { 0 < length table.now.files }
 {
     let class = class_of(alloc, table, class)?;
