@@ -1,44 +1,79 @@
 // Rows that were worked by hand: built-in classes, fields and methods found, superclasses and access.
 use crate::assembled::set_of;
-use crate::looked_up::{field, interface_method, is_under, may_use, method};
+use crate::question::{Question, Row, test_rows};
 use mvm_base::Name;
 use mvm_builtin::{builtin, native_number};
 use mvm_layout::flags::{PRIVATE, PROTECTED, PUBLIC};
 use std::alloc::{AllocError, Global};
 use std::test::Fail;
 
-/// A class with a field.
-const A: &str = "\
-class 33 A java/lang/Object
-field 1 a I
-";
+/// A class with a field; one that extends it; an interface with a field of that name; a class that has both above it; and a class of a
+/// package in another.
+const CLASSES: [&str; 5] = [
+    "class 33 A java/lang/Object\nfield 1 a I\n",
+    "class 33 B A",
+    "class 1537 I java/lang/Object\nfield 25 a I\n",
+    "class 33 C A\nimplements I\n",
+    "class 33 a/b/Far java/lang/Object",
+];
 
-/// A class that extends it.
-const B: &str = "class 33 B A";
+const ROWS: [Row; 14] = [
+    ("B", Question::Field("a", "I"), "1 A.a:I"),
+    ("B", Question::Field("z", "I"), "NoField"),
+    ("C", Question::Field("a", "I"), "1 I.a:I"),
+    (
+        "B",
+        Question::Method("equals", "(Ljava/lang/Object;)Z"),
+        "2 java/lang/Object.equals:(Ljava/lang/Object;)Z",
+    ),
+    ("B", Question::Method("gone", "()V"), "NoMethod"),
+    (
+        "java/lang/Runnable",
+        Question::Method("run", "()V"),
+        "Change",
+    ),
+    (
+        "java/lang/Runnable",
+        Question::InterfaceMethod("run", "()V"),
+        "0 java/lang/Runnable.run:()V",
+    ),
+    ("B", Question::Under("A"), "true"),
+    ("A", Question::Under("B"), "false"),
+    ("B", Question::MayUse("A", PRIVATE), "false"),
+    ("B", Question::MayUse("A", PROTECTED), "true"),
+    ("B", Question::MayUse("A", PUBLIC), "true"),
+    ("a/b/Far", Question::MayUse("a/Near", 0), "false"),
+    ("Gone", Question::Links, "NoClass"),
+];
 
-/// An interface with a field of that name.
-const I: &str = "\
-class 1537 I java/lang/Object
-field 25 a I
-";
-
-/// A class that has both above it.
-const C: &str = "\
-class 33 C A
-implements I
-";
-
-/// A class of a package in another.
-const FAR: &str = "class 33 a/b/Far java/lang/Object";
-
-/// Whether there is a built-in class of a name.
-fn is_built_in(alloc: Global, name: &str) -> Result<bool, AllocError> {
-    let name = Name::from_ascii(alloc, name)?;
-    match builtin(alloc, &name) {
-        Ok(found) => Ok(found.is_some()),
-        Err(_refused) => Err(AllocError),
-    }
+#[test]
+fn classes_and_members(rt: HostRuntime) -> Result<(), Fail> {
+    let table = set_of(rt.alloc(), &CLASSES)?;
+    test_rows(&rt, rt.alloc(), &table, &ROWS)
 }
+
+/// Names, and whether there is a built-in class of that name.
+const BUILT_IN: [(&str, bool); 2] = [("java/lang/Object", true), ("java/util/List", false)];
+
+#[test]
+fn built_in_classes(rt: HostRuntime) -> Result<(), Fail> {
+    for (name, is_one) in BUILT_IN {
+        let found = builtin(rt.alloc(), &Name::from_ascii(rt.alloc(), name)?);
+        let found = found.map_err(|_| AllocError)?;
+        assert_eq!(rt; found.is_some(), is_one);
+    }
+    Ok(())
+}
+
+/// Methods without parameter and result, by their class and their name, and the number of each that is native. The last three are
+/// inherited, bytecode, and abstract.
+const NATIVE: [(&str, &str, Option<u16>); 5] = [
+    ("java/lang/Object", "<init>", Some(0)),
+    ("java/lang/Object", "notify", Some(3)),
+    ("java/lang/Thread", "notify", None),
+    ("java/lang/Thread", "run", None),
+    ("java/lang/Runnable", "run", None),
+];
 
 /// The number of the native method of a class with this name and the descriptor `()V`.
 fn number_of(alloc: Global, class: &str, name: &str) -> Result<Option<u16>, AllocError> {
@@ -49,81 +84,9 @@ fn number_of(alloc: Global, class: &str, name: &str) -> Result<Option<u16>, Allo
 }
 
 #[test]
-fn built_in_classes(rt: HostRuntime) -> Result<(), Fail> {
-    let alloc = rt.alloc();
-    assert!(rt; is_built_in(alloc, "java/lang/Object")?);
-    assert!(rt; !is_built_in(alloc, "java/util/List")?);
-    Ok(())
-}
-
-#[test]
 fn native_methods(rt: HostRuntime) -> Result<(), Fail> {
-    let alloc = rt.alloc();
-    assert_eq!(rt; number_of(alloc, "java/lang/Object", "<init>")?, Some(0));
-    assert_eq!(rt; number_of(alloc, "java/lang/Object", "notify")?, Some(3));
-    // inherited, bytecode, and abstract
-    assert_eq!(rt; number_of(alloc, "java/lang/Thread", "notify")?, None);
-    assert_eq!(rt; number_of(alloc, "java/lang/Thread", "run")?, None);
-    assert_eq!(rt; number_of(alloc, "java/lang/Runnable", "run")?, None);
-    Ok(())
-}
-
-#[test]
-fn fields(rt: HostRuntime) -> Result<(), Fail> {
-    let alloc = rt.alloc();
-    let table = set_of(alloc, &[A, B, I, C])?;
-    assert_eq!(rt; field(alloc, &table, "B", "a")?.as_str(), "1 A.a:I");
-    assert_eq!(rt; field(alloc, &table, "B", "z")?.as_str(), "NoField");
-    assert_eq!(rt; field(alloc, &table, "C", "a")?.as_str(), "1 I.a:I");
-    Ok(())
-}
-
-#[test]
-fn methods(rt: HostRuntime) -> Result<(), Fail> {
-    let alloc = rt.alloc();
-    let table = set_of(alloc, &[A, B])?;
-    assert_eq!(rt;
-        method(alloc, &table, "B", "equals", "(Ljava/lang/Object;)Z")?.as_str(),
-        "2 java/lang/Object.equals:(Ljava/lang/Object;)Z"
-    );
-    assert_eq!(rt;
-        method(alloc, &table, "B", "gone", "()V")?.as_str(),
-        "NoMethod"
-    );
-    Ok(())
-}
-
-#[test]
-fn methods_of_an_interface(rt: HostRuntime) -> Result<(), Fail> {
-    let alloc = rt.alloc();
-    let table = set_of(alloc, &[])?;
-    assert_eq!(rt;
-        method(alloc, &table, "java/lang/Runnable", "run", "()V")?.as_str(),
-        "Change"
-    );
-    assert_eq!(rt;
-        interface_method(alloc, &table, "java/lang/Runnable", "run", "()V")?.as_str(),
-        "0 java/lang/Runnable.run:()V"
-    );
-    Ok(())
-}
-
-#[test]
-fn superclasses(rt: HostRuntime) -> Result<(), Fail> {
-    let alloc = rt.alloc();
-    let table = set_of(alloc, &[A, B])?;
-    assert!(rt; is_under(alloc, &table, "B", "A")?);
-    assert!(rt; !is_under(alloc, &table, "A", "B")?);
-    Ok(())
-}
-
-#[test]
-fn access(rt: HostRuntime) -> Result<(), Fail> {
-    let alloc = rt.alloc();
-    let table = set_of(alloc, &[A, B, FAR])?;
-    assert!(rt; !may_use(alloc, &table, "B", "A", PRIVATE)?);
-    assert!(rt; may_use(alloc, &table, "B", "A", PROTECTED)?);
-    assert!(rt; may_use(alloc, &table, "B", "A", PUBLIC)?);
-    assert!(rt; !may_use(alloc, &table, "a/b/Far", "a/Near", 0)?);
+    for (class, name, number) in NATIVE {
+        assert_eq!(rt; number_of(rt.alloc(), class, name)?, number);
+    }
     Ok(())
 }

@@ -18,9 +18,15 @@ mod entries;
 mod files;
 mod finding;
 #[cfg(test)]
-mod looked_up;
+mod loading_rows;
 mod measure;
+#[cfg(test)]
+mod mirror_rows;
+#[cfg(test)]
+mod question;
 mod refusal;
+#[cfg(test)]
+mod selection_rows;
 mod set_files;
 mod shown;
 mod tell;

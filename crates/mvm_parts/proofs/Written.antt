@@ -1,10 +1,10 @@
 -- A write keeps the sort of an object and the number of its places.
-use Rattle.std.proofs.Common.{◌≡◌, ℕ, ◌<◌, List, length, ap, sym, ◌∙◌, subst, get_or-set_same}
+use Rattle.std.proofs.Common.{◌≡◌, ℕ, ◌<◌, ◌≤◌, List, length, ap, sym, ◌∙◌, subst, get_or-set_same}
 use Rattle.std.proofs.lemmas.List.{length-set}
 use Rattle.mvm_heap.specs.Objects.{Object}
 use Rattle.mvm_heap.specs.Sorts.{kept}
 use Rattle.mvm_heap.specs.Heap.{object_at, nothing, put, written}
-use Rattle.mvm_parts.specs.Times.{HasField, HasItem}
+use Rattle.mvm_parts.specs.Times.{HasFields, HasItems}
 
 there_kept : (os : List Object) (n place v : ℕ) → n < length os → n < length (written os n place v)
 unfolding written
@@ -20,8 +20,8 @@ places_kept os n place v h =
     ap (λ (o : Object). length o.contents) (get_or-set_same os n (put (object_at os n) place v) nothing h)
     ∙ length-set (object_at os n).contents place (kept (object_at os n).sort v)
 
-pub field_kept : (os : List Object) (n place v : ℕ) → HasField os n → HasField (written os n place v) n
-field_kept os n place v (h, c, s) = (there_kept os n place v h, subst (λ (m : ℕ). 1 < m) (sym (places_kept os n place v h)) c, sort_kept os n place v h ∙ s)
+pub fields_kept : (os : List Object) (n count place v : ℕ) → HasFields os n count → HasFields (written os n place v) n count
+fields_kept os n count place v (h, c, s) = (there_kept os n place v h, subst (λ (m : ℕ). count ≤ m) (sym (places_kept os n place v h)) c, sort_kept os n place v h ∙ s)
 
-pub item_kept : (os : List Object) (n at place v : ℕ) → HasItem os n at → HasItem (written os n place v) n at
-item_kept os n at place v (h, c, s) = (there_kept os n place v h, subst (λ (m : ℕ). at < m) (sym (places_kept os n place v h)) c, sort_kept os n place v h ∙ s)
+pub items_kept : (os : List Object) (n count place v : ℕ) → HasItems os n count → HasItems (written os n place v) n count
+items_kept os n count place v (h, c, s) = (there_kept os n place v h, subst (λ (m : ℕ). count ≤ m) (sym (places_kept os n place v h)) c, sort_kept os n place v h ∙ s)

@@ -1,13 +1,17 @@
 //! Program: `mvm_parts`, a tool for comparing and timing the parts of a step, which `mvm` does not use.
 //!
-//! `mvm_parts ROW..` tells for each row, an instruction by its mnemonic and the operands that it finds, the lowest first, what it leaves
-//! there: `isub I7 I9` leaves `I-2`. An int is written with an I before it, a long with a J. What an instruction leaves is said at
-//! [`instruction::left_by`].
+//! `mvm_parts ROW..` tells for each row what it leaves. A row is an instruction by its mnemonic and the operands that it finds, the lowest
+//! first: `isub I7 I9` leaves `I-2`; or values and native methods, each of which is called with all values so far. An int is written with an
+//! I before it, a long with a J. What an instruction leaves is said at [`instruction::left_by`], and a row of native methods is read by
+//! [`natives::tell_calls`].
 //!
 //! `mvm_parts --times PART COUNT SIZE` tells nothing. It does so many operations on a part of so many frames, items or words.
 #![tactic(auto)]
 
+mod appends;
+mod fits;
 mod instruction;
+mod natives;
 #[cfg(test)]
 mod part_rows;
 mod row;

@@ -1,4 +1,5 @@
 use crate::instruction::{Left, left_by};
+use crate::natives::tell_calls;
 use crate::shuffle::shuffled;
 use mvm_base::{OutOfMemory, Word};
 use mvm_insn::opcode_named;
@@ -6,7 +7,7 @@ use std::alloc::{AllocError, Global};
 use std::io;
 
 /// The value that a text is: an int behind an I, a long behind a J.
-fn word_of(text: &str) -> Option<Word> {
+pub(crate) fn word_of(text: &str) -> Option<Word> {
     match text.strip_prefix("I") {
         Some(digits) => match digits.parse::<i32>() {
             Ok(value) => Some(Word::Int(value)),
@@ -35,7 +36,7 @@ fn words_of(alloc: Global, texts: &[&str]) -> Result<Option<Vec<Word>>, AllocErr
 }
 
 /// Tells a value, with a blank before it where one stands before it.
-fn tell_word(rt: &HostRuntime, is_first: bool, word: Word) -> io::Result<()> {
+pub(crate) fn tell_word(rt: &HostRuntime, is_first: bool, word: Word) -> io::Result<()> {
     if !is_first {
         print!(rt; " ")?;
     }
@@ -83,7 +84,8 @@ fn tell_left(rt: &HostRuntime, op: u8, operands: &[Word]) -> io::Result<bool> {
     }
 }
 
-/// Tells what the instruction of a row leaves. It answers whether the row is one, and the instruction leaves anything.
+/// Tells what a row leaves, which begins with an instruction, or else has values and native methods. It answers whether the row is one, and
+/// leaves anything.
 pub(crate) fn tell_row(rt: &HostRuntime, row: &str) -> io::Result<bool> {
     let alloc = rt.alloc();
     let texts: Vec<&str> = row.split_whitespace().collect(alloc)?;
@@ -91,7 +93,7 @@ pub(crate) fn tell_row(rt: &HostRuntime, row: &str) -> io::Result<bool> {
         return Ok(false);
     };
     let Some(op) = opcode_named(mnemonic) else {
-        return Ok(false);
+        return tell_calls(rt, texts.as_slice());
     };
     match words_of(alloc, others)? {
         Some(operands) => tell_left(rt, op, operands.as_slice()),

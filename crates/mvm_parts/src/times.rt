@@ -1,6 +1,7 @@
-ghost use Rattle.std.specs.Prelude.{◌≡◌, ◌<◌, ◌^◌, length};
-ghost use Rattle.mvm_parts.specs.Times.{HasField, HasItem};
+ghost use Rattle.std.specs.Prelude.{◌≡◌, ◌+◌, ◌<◌, ◌^◌, length};
+ghost use Rattle.mvm_parts.specs.Times.{HasFields, HasItems};
 
+use crate::appends::time_appends;
 use mvm_base::{Kind, OutOfMemory, Word};
 use mvm_frame::{FrameKey, Stack};
 use mvm_heap::{Heap, ItemKind, ObjectKind};
@@ -10,16 +11,18 @@ use std::alloc::Global;
 /// A part of a step that is timed.
 #[derive(Clone, Copy, Debug, PartialEq, Eq)]
 pub(crate) enum Part {
-    /// The operands of the last of so many frames: a push and a pop.
+    /// The operands of the last of so many frames: pushes, then as many pops.
     Operands,
-    /// Its local variables: a store and a load.
+    /// Its local variables: stores, then as many loads.
     Locals,
     /// New objects of two fields, in a heap of so many words.
     Objects,
-    /// A field of the last of so many objects: a write and a read.
+    /// The fields of an object behind so many others: writes, then as many reads.
     Fields,
-    /// An item of an array of so many ints: a write and a read.
+    /// The last items of an array of so many ints: writes, then as many reads.
     Items,
+    /// Appends of a char to a StringBuilder of so many.
+    Appends,
 }
 
 impl Part {
@@ -31,44 +34,95 @@ impl Part {
             "objects" => Some(Part::Objects),
             "fields" => Some(Part::Fields),
             "items" => Some(Part::Items),
+            "appends" => Some(Part::Appends),
             _ => None,
         }
     }
 }
 
-/// How many local variables a frame has, and how many slots of operands.
-const SLOTS: u16 = 4;
+/// How many operations of one kind are done in a round, before as many of the other: alone, a push and the pop behind it would be nothing to a
+/// compiler.
+const ROUND: u16 = 1_000;
 
-/// A stack of so many frames.
+/// The int at a place in a round.
+fn value_at(round: u32, place: u16) -> Word {
+    Word::Int(round.wrapping_add(u32::from(place)).cast_signed())
+}
+
+/// The key of a frame.
+const KEY: FrameKey = FrameKey {
+    mirror: 0,
+    method: 0,
+    lock: None,
+};
+
+/// A stack of so many small frames, and on top one with local variables and operands for a round.
 fn framed(alloc: Global, frames: u32) -> Result<Stack, OutOfMemory> {
-    let mut stack = Stack::new(alloc, frames, frames.saturating_mul(8))?;
-    let key = FrameKey {
-        mirror: 0,
-        method: 0,
-        lock: None,
-    };
+    let words = frames
+        .saturating_mul(2)
+        .saturating_add(2 * u32::from(ROUND));
+    let mut stack = Stack::new(alloc, frames.saturating_add(1), words)?;
     for _ in 0..frames {
-        let _ = stack.enter(key, SLOTS, SLOTS);
+        let _ = stack.enter(KEY, 1, 1);
     }
+    let _ = stack.enter(KEY, ROUND, ROUND);
     Ok(stack)
 }
 
-/// So many pushes and pops. It answers whether all were done.
-fn push_and_pop(stack: &mut Stack, count: u32) -> bool {
-    for turn in 0..count {
-        let value = Word::Int(turn.cast_signed());
-        if stack.push(value).is_err() || stack.pop(Kind::Int) != Ok(value) {
+/// A push for each place. It answers whether all were done.
+fn push_all(stack: &mut Stack, round: u32) -> bool {
+    for place in 0..ROUND {
+        if stack.push(value_at(round, place)).is_err() {
             return false;
         }
     }
     true
 }
 
-/// So many stores and loads. It answers whether all were done.
-fn store_and_load(stack: &mut Stack, count: u32) -> bool {
-    for turn in 0..count {
-        let value = Word::Int(turn.cast_signed());
-        if stack.store(1, value).is_err() || stack.load(1, Kind::Int) != Ok(value) {
+/// A pop for each place, from the last on. It answers whether each gave what was pushed there.
+fn pop_all(stack: &mut Stack, round: u32) -> bool {
+    for behind in 0..ROUND {
+        if stack.pop(Kind::Int) != Ok(value_at(round, ROUND - 1 - behind)) {
+            return false;
+        }
+    }
+    true
+}
+
+/// A store for each place. It answers whether all were done.
+fn store_all(stack: &mut Stack, round: u32) -> bool {
+    for place in 0..ROUND {
+        if stack.store(place, value_at(round, place)).is_err() {
+            return false;
+        }
+    }
+    true
+}
+
+/// A load for each place. It answers whether each gave what was stored there.
+fn load_all(stack: &Stack, round: u32) -> bool {
+    for place in 0..ROUND {
+        if stack.load(place, Kind::Int) != Ok(value_at(round, place)) {
+            return false;
+        }
+    }
+    true
+}
+
+/// So many rounds of pushes and pops. It answers whether all were done.
+fn push_and_pop(stack: &mut Stack, rounds: u32) -> bool {
+    for round in 0..rounds {
+        if !push_all(stack, round) || !pop_all(stack, round) {
+            return false;
+        }
+    }
+    true
+}
+
+/// So many rounds of stores and loads. It answers whether all were done.
+fn store_and_load(stack: &mut Stack, rounds: u32) -> bool {
+    for round in 0..rounds {
+        if !store_all(stack, round) || !load_all(stack, round) {
             return false;
         }
     }
@@ -79,15 +133,16 @@ fn store_and_load(stack: &mut Stack, count: u32) -> bool {
 const MOST_WORDS: u32 = 100_000_000;
 
 /// A heap of so many words, or of the most.
-fn heap_of(alloc: Global, words: u32) -> Result<Heap, OutOfMemory> {
+pub(crate) fn heap_of(alloc: Global, words: u32) -> Result<Heap, OutOfMemory> {
     let mut pool = RegionPool::new(alloc, 0)?;
     let region = pool.take(words.min(MOST_WORDS))?;
     Heap::new(alloc, region)
 }
 
-/// A heap with room for so many objects of two fields and one more, if that is not too much.
+/// A heap with room for so many objects of two fields and one with fields for a round, if that is not too much.
 fn heap_for(alloc: Global, objects: u32) -> Result<Heap, OutOfMemory> {
-    heap_of(alloc, objects.saturating_add(1).saturating_mul(4))
+    let last = u32::from(ROUND) + 2;
+    heap_of(alloc, objects.saturating_mul(4).saturating_add(last))
 }
 
 /// So many new objects, as long as there is room. It answers whether all were made.
@@ -100,88 +155,121 @@ fn make_objects(heap: &mut Heap, count: u32) -> bool {
     true
 }
 
-/// Puts a value in the second field of an object, and reads it. It answers whether it reads what was put there.
-fn put_and_get_field(heap: &mut Heap, object: u32, value: Word) -> bool
-    requires { HasField heap.old.state.objects object }
-    ensures { HasField heap.new.state.objects object }
+/// A write of each field of an object.
+fn put_fields(heap: &mut Heap, object: u32, round: u32)
+    requires { HasFields heap.old.state.objects object ROUND }
+    ensures { HasFields heap.new.state.objects object ROUND }
 {
-    heap.set_field(object, 1, value);
-    heap.get_field(object, 1, Kind::Int) == value
+    for place in 0..ROUND {
+        heap.set_field(object, u32::from(place), value_at(round, place));
+    }
 }
 
-/// Does so many times so. It answers whether all were done.
-fn write_and_read_field(heap: &mut Heap, object: u32, count: u32) -> bool
-    requires { HasField heap.old.state.objects object }
+/// A read of each field of an object. It answers whether each gave what was put there.
+fn get_fields(heap: &Heap, object: u32, round: u32) -> bool
+    requires { HasFields heap.now.state.objects object ROUND }
 {
-    for turn in 0..count {
-        if !put_and_get_field(heap, object, Word::Int(turn.cast_signed())) {
+    for place in 0..ROUND {
+        if heap.get_field(object, u32::from(place), Kind::Int) != value_at(round, place) {
             return false;
         }
     }
     true
 }
 
-/// Puts a value in an item of an array, and reads it. It answers whether it reads what was put there.
-fn put_and_get_item(heap: &mut Heap, array: u32, place: u32, value: Word) -> bool
-    requires { HasItem heap.old.state.objects array place }
-    ensures { HasItem heap.new.state.objects array place }
+/// So many rounds of both. It answers whether all were done.
+fn write_and_read_fields(heap: &mut Heap, object: u32, rounds: u32) -> bool
+    requires { HasFields heap.old.state.objects object ROUND }
 {
-    heap.set_item(array, place, value);
-    heap.get_item(array, place) == value
-}
-
-/// Does so many times so. It answers whether all were done.
-fn write_and_read_item(heap: &mut Heap, array: u32, place: u32, count: u32) -> bool
-    requires { HasItem heap.old.state.objects array place }
-{
-    for turn in 0..count {
-        if !put_and_get_item(heap, array, place, Word::Int(turn.cast_signed())) {
+    for round in 0..rounds {
+        put_fields(heap, object, round);
+        if !get_fields(heap, object, round) {
             return false;
         }
     }
     true
 }
 
-/// So many writes and reads of a field of an object that stands behind so many others.
-fn time_fields(heap: &mut Heap, size: u32, count: u32) -> bool {
+/// A write of each of the items of an array from a place on.
+fn put_items(heap: &mut Heap, array: u32, from: u32, round: u32)
+    requires place { from + ROUND < 2 ^ 32 }
+    requires there { HasItems heap.old.state.objects array (from + ROUND) }
+    ensures { HasItems heap.new.state.objects array (from + ROUND) }
+{
+    for place in 0..ROUND {
+        heap.set_item(array, from + u32::from(place), value_at(round, place));
+    }
+}
+
+/// A read of each of them. It answers whether each gave what was put there.
+fn get_items(heap: &Heap, array: u32, from: u32, round: u32) -> bool
+    requires place { from + ROUND < 2 ^ 32 }
+    requires there { HasItems heap.now.state.objects array (from + ROUND) }
+{
+    for place in 0..ROUND {
+        if heap.get_item(array, from + u32::from(place)) != value_at(round, place) {
+            return false;
+        }
+    }
+    true
+}
+
+/// So many rounds of both. It answers whether all were done.
+fn write_and_read_items(heap: &mut Heap, array: u32, from: u32, rounds: u32) -> bool
+    requires place { from + ROUND < 2 ^ 32 }
+    requires there { HasItems heap.old.state.objects array (from + ROUND) }
+{
+    for round in 0..rounds {
+        put_items(heap, array, from, round);
+        if !get_items(heap, array, from, round) {
+            return false;
+        }
+    }
+    true
+}
+
+/// So many rounds of writes and reads of the fields of an object that stands behind so many others.
+fn time_fields(heap: &mut Heap, size: u32, rounds: u32) -> bool {
     if !make_objects(heap, size) {
         return false;
     }
-    match heap.alloc_object(0, 2) {
+    match heap.alloc_object(0, u32::from(ROUND)) {
         Ok(object) => {
             heap.kind_of(object) == ObjectKind::Object
-                && heap.length(object) > 1
-                && write_and_read_field(heap, object, count)
+                && heap.length(object) >= u32::from(ROUND)
+                && write_and_read_fields(heap, object, rounds)
         }
         Err(_) => false,
     }
 }
 
-/// So many writes and reads of the last item of an array of so many ints.
-fn time_items(heap: &mut Heap, size: u32, count: u32) -> bool {
+/// So many rounds of writes and reads of the last items of an array of so many ints.
+fn time_items(heap: &mut Heap, size: u32, rounds: u32) -> bool {
     match heap.alloc_array(0, ItemKind::Int, size) {
         Ok(array) => {
             heap.kind_of(array) == ObjectKind::Array(ItemKind::Int)
-                && size > 0
+                && size > u32::from(ROUND)
                 && heap.length(array) >= size
-                && write_and_read_item(heap, array, size - 1, count)
+                && write_and_read_items(heap, array, size - u32::from(ROUND), rounds)
         }
         Err(_) => false,
     }
 }
 
-/// Does so many operations on a part of so many things. It answers whether all were done.
+/// Does so many operations of each kind, or some more to fill the last round, on a part of so many things. It answers whether all were done.
 pub(crate) fn repeat(
     alloc: Global,
     part: Part,
     count: u32,
     size: u32,
 ) -> Result<bool, OutOfMemory> {
+    let rounds = count.div_ceil(u32::from(ROUND));
     match part {
-        Part::Operands => Ok(push_and_pop(&mut framed(alloc, size)?, count)),
-        Part::Locals => Ok(store_and_load(&mut framed(alloc, size)?, count)),
+        Part::Operands => Ok(push_and_pop(&mut framed(alloc, size)?, rounds)),
+        Part::Locals => Ok(store_and_load(&mut framed(alloc, size)?, rounds)),
         Part::Objects => Ok(make_objects(&mut heap_of(alloc, size)?, count)),
-        Part::Fields => Ok(time_fields(&mut heap_for(alloc, size)?, size, count)),
-        Part::Items => Ok(time_items(&mut heap_for(alloc, size)?, size, count)),
+        Part::Fields => Ok(time_fields(&mut heap_for(alloc, size)?, size, rounds)),
+        Part::Items => Ok(time_items(&mut heap_for(alloc, size)?, size, rounds)),
+        Part::Appends => time_appends(alloc, count, size),
     }
 }

@@ -1,5 +1,5 @@
 -- the steps are counted in the ledger that was made for them
-use Rattle.mvm_classes.proofs.looked_up.entry_of.Given as goal
+use Rattle.mvm_classes.proofs.question.entry_of.Given as goal
 
 abbrev pub ghosts-entry_counted : goal.ghosts-entry_counted
 ghosts-entry_counted a = record { name = a.blank.name; parts = a.blank.parts }
