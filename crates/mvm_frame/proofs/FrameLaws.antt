@@ -26,7 +26,7 @@ entered key locals depth args old new e = answered (fits locals depth old) (with
 pub entered_law : (key : FrameKey) (locals depth args : ℕ) (old new : StackParts) → enter key locals depth args old ≡ Ok new → frames_of new ≡ fresh key locals depth args old.operands.slots ∷ frames_of (without args old)
 entered_law key locals depth args old new e = let h = (entered key locals depth args old new e).1 in rw (← h) refl
 
-both : (a b : Bool) → (a && b) ≡ true → (a ≡ true) × (b ≡ true)
+pub both : (a b : Bool) → (a && b) ≡ true → (a ≡ true) × (b ≡ true)
 both true b e = (refl, e)
 both false b e = absurd cc
 

@@ -3,3 +3,4 @@ pub mod Framed
 pub mod Shuffling
 pub mod FormLaws
 pub mod FrameLaws
+pub mod FramesAfter

@@ -1,21 +1,21 @@
 -- What a write to the array changes.
-use Rattle.std.proofs.Common.{◌≡◌, ℕ, zero, suc, ◌+◌, ◌-◌, ◌<◌, ◌≤◌, ◌^◌, List, [], ◌∷◌, length, take, drop, get_or, refl, sym, ap, ◌∙◌, arith, add-one, subst, inl, inr}
+use Rattle.std.proofs.Common.{◌≡◌, ℕ, zero, suc, ◌+◌, ◌-◌, ◌<◌, ◌≤◌, ◌^◌, List, [], ◌∷◌, length, take, drop, get_or, refl, sym, ap, ◌∙◌, arith, add-one, subst}
 use Rattle.std.proofs.Math.ListN.{set, length-drop, length-set}
 use Rattle.std.proofs.lemmas.Grind.{common_steps}
 use Rattle.std.proofs.lemmas.List.{take-set-le, drop-set-lt, drop-set-add, drop-set, drop-drop, drop-take, take-take, get_or-take, get_or-drop, take_more, reverse-append}
 use Rattle.std.proofs.lemmas.Option.{slice_get_read, slice_get_past}
 use Rattle.std.proofs.lemmas.Bool.Decides.{nat_tests}
-use Rattle.mvm_frame.specs.declared.refused.Refused.TheVariants.{Full}
-use Rattle.std.specs.Prelude.{IsSome, Bool, true, false, ◌&&◌, nat_lt, nat_le, Ok, Err, ◌⊎◌, slice_get, reverse, replicate, ◌++◌, Some, None}
+use Rattle.std.specs.Prelude.{IsSome, true, false, nat_lt, nat_le, Ok, slice_get, reverse, replicate, ◌++◌, Some, None, option_map}
 use Rattle.mvm_frame.specs.declared.key.FrameKey.{FrameKey}
 use Rattle.mvm_frame.specs.declared.slot.Slot.TheVariants.{Unset}
-use Rattle.mvm_frame.specs.Calls.{room_of, reached, enter, without, with_frame}
+use Rattle.mvm_frame.specs.Calls.{room_of, reached, enter, fits, place_of, without, with_frame}
 use Rattle.std.proofs.Math.Seq.{take-set-lt, drop-cons}
 use Rattle.mvm_frame.specs.declared.slot.Slot.{Slot}
 use Rattle.mvm_frame.specs.declared.rows.Row.{Row}
-use Rattle.mvm_frame.specs.Parts.{frames_of, frames_by, stack_with}
+use Rattle.mvm_frame.specs.Parts.{StackParts, frames_of, frames_by, stack_with}
 use Rattle.mvm_frame.specs.Laid.{part, callers_of, operands_of, stack_of, key_of, InOrder, Beneath, Stands}
 use Rattle.mvm_frame.specs.RowsParts.{RowsParts}
+use Rattle.mvm_frame.proofs.FrameLaws.{both}
 
 pub length_part : (from to : ℕ) (ws : List Slot) → to ≤ length ws → length (part from to ws) ≡ to - from
 unfolding part
@@ -295,29 +295,35 @@ lay_ended at base bottom k args ws old unset e f h =
 
 -- ---- whether a frame fits
 
-and_false : (b : Bool) → (b && false) ≡ false
-and_false true = refl
-and_false false = refl
-
-pub full_when : (top : Row) (callers : RowsParts) (ws : List Slot) (key : FrameKey) (locals depth args : ℕ) → Stands top callers.rows ws → (length callers.rows ≡ callers.most) ⊎ (top.floor < locals + depth) → enter key locals depth args (stack_of top callers ws) ≡ Err Full
-unfolding enter
-full_when top callers ws key locals depth args h (inl full) =
+pub fits_full : (top : Row) (callers : RowsParts) (ws : List Slot) (locals depth : ℕ) → length callers.rows ≡ callers.most → fits locals depth (stack_of top callers ws) ≡ false
+fits_full top callers ws locals depth full =
     let n = count_is top callers ws in
     let e : nat_lt (length (frames_of (stack_of top callers ws))) callers.most ≡ false = grind (arith, nat_tests) in
     rw e refl
-full_when top callers ws key locals depth args h (inr few) =
-    let n = words_are top callers ws h in
-    let e : nat_le (reached (frames_of (stack_of top callers ws)) + locals + depth) (length ws) ≡ false = grind (arith, nat_tests) in
-    rw (e, and_false) refl
 
-pub fits_when : (top : Row) (callers : RowsParts) (ws : List Slot) (key : FrameKey) (locals depth args : ℕ) → Stands top callers.rows ws → length callers.rows < callers.most → locals + depth ≤ top.floor → enter key locals depth args (stack_of top callers ws) ≡ Ok (with_frame key locals depth args (stack_of top callers ws))
-unfolding enter
-fits_when top callers ws key locals depth args h room few =
+pub fits_words : (top : Row) (callers : RowsParts) (ws : List Slot) (locals depth : ℕ) → Stands top callers.rows ws → length callers.rows < callers.most → fits locals depth (stack_of top callers ws) ≡ nat_le (locals + depth) top.floor
+fits_words top callers ws locals depth h room =
     let m = count_is top callers ws in
     let n = words_are top callers ws h in
     let d : nat_lt (length (frames_of (stack_of top callers ws))) callers.most ≡ true = grind (arith, nat_tests) in
-    let e : nat_le (reached (frames_of (stack_of top callers ws)) + locals + depth) (length ws) ≡ true = grind (arith, nat_tests) in
+    let e : nat_le (reached (frames_of (stack_of top callers ws)) + locals + depth) (length ws) ≡ nat_le (locals + depth) top.floor = grind (arith, nat_tests) in
     rw (d, e) refl
+
+pub rows_given : (top : Row) (callers : RowsParts) (ws : List Slot) (s : StackParts) (locals depth : ℕ) → stack_of top callers ws ≡ s → true ≡ fits locals depth s → length callers.rows < callers.most
+rows_given top callers ws s locals depth is e =
+    let t = both (nat_lt (length (frames_of (stack_of top callers ws))) callers.most) (nat_le (reached (frames_of (stack_of top callers ws)) + locals + depth) (length ws)) (ap (λ (x : StackParts). fits locals depth x) is ∙ sym e) in
+    let a : length (frames_of (stack_of top callers ws)) < callers.most = grind (arith, nat_tests, t.0) in
+    omega (arith, a, count_is top callers ws)
+
+pub words_given : (top : Row) (callers : RowsParts) (ws : List Slot) (s : StackParts) (locals depth : ℕ) → Stands top callers.rows ws → stack_of top callers ws ≡ s → true ≡ fits locals depth s → locals + depth ≤ top.floor
+words_given top callers ws s locals depth h is e =
+    let t = both (nat_lt (length (frames_of (stack_of top callers ws))) callers.most) (nat_le (reached (frames_of (stack_of top callers ws)) + locals + depth) (length ws)) (ap (λ (x : StackParts). fits locals depth x) is ∙ sym e) in
+    let a : reached (frames_of (stack_of top callers ws)) + locals + depth ≤ length ws = grind (arith, nat_tests, t.1) in
+    omega (arith, a, words_are top callers ws h)
+
+pub enters : (key : FrameKey) (locals depth args : ℕ) (s : StackParts) → true ≡ fits locals depth s → enter key locals depth args s ≡ Ok (with_frame key locals depth args s)
+unfolding enter
+enters key locals depth args s e = rw (← e) refl
 
 -- ---- no frame
 
@@ -347,7 +353,7 @@ has_frame top (r ∷ rs) ws h lt = refl
 
 -- ---- the frame that waits
 
-pub waiting_room_is : (floor base : ℕ) (rows : List Row) (ws : List Slot) (row : Row) → Beneath floor base rows (length ws) → 2 ≤ length rows → slice_get rows 0 ≡ Some row → Some (row.sp - row.floor) ≡ room_of (callers_of rows ws)
+pub waiting_room_is : (floor base : ℕ) (rows : List Row) (ws : List Slot) (row : Row) → Beneath floor base rows (length ws) → 1 < length rows → slice_get rows 0 ≡ Some row → Some (row.sp - row.floor) ≡ room_of (callers_of rows ws)
 unfolding callers_of Beneath
 waiting_room_is floor base [] ws row h two is = absurd (omega arith)
 waiting_room_is floor base (r ∷ []) ws row h two is = absurd (omega arith)
@@ -358,7 +364,7 @@ waiting_room_is floor base (r ∷ s ∷ rs) ws row h two is =
     let d : r.sp - r.floor ≡ r.bottom - r.floor - length (part r.sp r.bottom ws) = omega (arith, l, o.floor, o.sp) in
     rw (← e) (ap Some d)
 
-pub no_waiting : (rows : List Row) (ws : List Slot) → length rows < 2 → None ≡ room_of (callers_of rows ws)
+pub no_waiting : (rows : List Row) (ws : List Slot) → length rows ≤ 1 → None ≡ room_of (callers_of rows ws)
 unfolding callers_of
 no_waiting [] ws few = refl
 no_waiting (r ∷ []) ws few = refl
@@ -368,3 +374,21 @@ pub waiting_order : (floor base n : ℕ) (rows : List Row) (row : Row) → Benea
 unfolding Beneath
 waiting_order floor base n [] row h is = absurd cc
 waiting_order floor base n (r ∷ rs) row h is = let e : r ≡ row = cc in subst (λ (x : Row). x.floor ≤ x.sp) e h.1.floor
+
+-- ---- the callers
+
+pub caller_is : (rows : List Row) (ws : List Slot) (at : ℕ) (row : Row) → at + 1 < length rows → slice_get rows at ≡ Some row → Some (record { key = row.key; pc = row.pc }) ≡ option_map place_of (slice_get (callers_of rows ws) at)
+unfolding callers_of
+caller_is [] ws at row h is = absurd (omega arith)
+caller_is (r ∷ []) ws at row h is = absurd (omega arith)
+caller_is (r ∷ s ∷ rs) ws zero row h is = let e : r ≡ row = cc in rw (← e) refl
+caller_is (r ∷ s ∷ rs) ws (suc at) row h is = caller_is (s ∷ rs) ws at row (omega (arith, h)) is
+
+pub no_caller : (rows : List Row) (ws : List Slot) (at : ℕ) → length rows ≤ at + 1 → None ≡ option_map place_of (slice_get (callers_of rows ws) at)
+unfolding callers_of
+no_caller [] ws at h = refl
+no_caller (r ∷ rs) ws at h = rw (slice_get_past (callers_of (r ∷ rs) ws) at (omega (arith, callers_count r rs ws, h))) refl
+
+pub waits_on : (top : Row) (rows : List Row) → 1 < length rows → IsSome (key_of top.key rows)
+waits_on top [] h = absurd (omega arith)
+waits_on top (r ∷ rs) h = refl

@@ -9,6 +9,7 @@ use Rattle.mvm_base.specs.declared.value.Word.TheVariants as word
 use Rattle.mvm_frame.specs.declared.slot.Slot.{Slot}
 use Rattle.mvm_frame.specs.declared.slot.Slot.TheVariants.{Unset, Half, Int, Long, Ref, Null}
 use Rattle.mvm_frame.specs.declared.key.FrameKey.{FrameKey}
+use Rattle.mvm_frame.specs.declared.place.Place.{Place}
 use Rattle.mvm_frame.specs.declared.refused.Refused.{Refused}
 use Rattle.mvm_frame.specs.declared.refused.Refused.TheVariants as refused
 use Rattle.mvm_frame.specs.declared.shuffle_rows.Shuffle.{Shuffle}
@@ -186,11 +187,19 @@ fresh key locals depth n slots = record {
   operands = record { depth = depth; slots = [] };
 }
 
+-- a frame whose local variables are all unset
+abbrev pub unset_frame : FrameKey → ℕ → ℕ → Frame
+unset_frame key locals depth = record { key = key; pc = 0; locals = replicate locals Unset; operands = record { depth = depth; slots = [] } }
+
 abbrev pub with_frame : FrameKey → ℕ → ℕ → ℕ → StackParts → StackParts
 with_frame key locals depth n s = stack_with (fresh key locals depth n s.operands.slots ∷ frames_of (without n s)) s.rest.below.most s.rest.below.words
 
 unfoldable pub enter : FrameKey → ℕ → ℕ → ℕ → StackParts → Result StackParts Refused
 enter key locals depth n s = if fits locals depth s then Ok (with_frame key locals depth n s) else Err refused.Full
+
+-- what a frame runs, and its pc
+abbrev pub place_of : Frame → Place
+place_of f = record { key = f.key; pc = f.pc }
 
 -- how many more operands fit into the nearest frame
 abbrev pub room_of : List Frame → Option ℕ

@@ -10,6 +10,7 @@
 mod key;
 mod laws;
 mod lay;
+mod place;
 mod refused;
 mod rows;
 mod shuffle_rows;
@@ -19,6 +20,7 @@ mod stack;
 
 pub use key::FrameKey;
 pub use laws::frames_law;
+pub use place::Place;
 pub use refused::Refused;
 pub use shuffle_rows::{Shuffle, shuffle_of};
 pub use slot::Slot;

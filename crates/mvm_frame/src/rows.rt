@@ -1,4 +1,4 @@
-ghost use Rattle.std.specs.Prelude.{◌≡◌, [], ◌∷◌, ◌<◌, ◌≤◌, ◌==◌, length, slice_get, IfOk, MatchOption, MatchBool};
+ghost use Rattle.std.specs.Prelude.{◌≡◌, [], ◌∷◌, ◌+◌, ◌<◌, ◌≤◌, ◌==◌, length, slice_get, Some, IfOk, MatchOption, MatchBool};
 
 use crate::key::FrameKey;
 use std::alloc::{AllocError, Global};
@@ -50,6 +50,13 @@ impl Rows {
         self.len == 0
     }
 
+    pub fn len(&self) -> usize
+        ensures is { result ≡ length self.now.rows }
+        ensures within { result ≤ self.now.most }
+    {
+        self.len
+    }
+
     pub fn is_full(&self) -> bool
         ensures { MatchBool result (length self.now.rows ≡ self.now.most) (length self.now.rows < self.now.most) }
     {
@@ -76,13 +83,13 @@ impl Rows {
         Some(self.rows[self.len])
     }
 
-    /// The last row, if there is another one beneath it.
-    pub fn waiting(&self) -> Option<Row>
-        ensures { MatchOption result (length self.now.rows < 2) (λ row. (2 ≤ length self.now.rows) × (slice_get self.now.rows 0 ≡ Some row)) }
+    /// The row at a place counted from the last one, if there is another one beneath it.
+    pub fn waiting(&self, at: usize) -> Option<Row>
+        ensures { MatchOption result (length self.now.rows ≤ at + 1) (λ row. (at + 1 < length self.now.rows) × (slice_get self.now.rows at ≡ Some row)) }
     {
-        if self.len < 2 {
+        if self.len < 2 || self.len - 2 < at {
             return None;
         }
-        Some(self.rows[self.len - 1])
+        Some(self.rows[self.len - 1 - at])
     }
 }

@@ -1,11 +1,12 @@
-ghost use Rattle.std.specs.Prelude.{◌≡◌, [], ◌∷◌, ◌+◌, ◌<◌, ◌≤◌, ◌^◌, ◌-◌, length, slice_get, slice_set, Some, IfOk, IfNone, IfSome, OnSome, OnErr, IsSome, drop};
+ghost use Rattle.std.specs.Prelude.{◌≡◌, [], ◌∷◌, ◌+◌, ◌<◌, ◌≤◌, ◌^◌, ◌-◌, length, slice_get, slice_set, Some, IfOk, IfNone, IfSome, OnSome, OnErr, IsSome, drop, option_map};
 ghost use Rattle.mvm_base.specs.Answers.{Does, Gives};
-ghost use Rattle.mvm_frame.specs.Calls.{framed, refusal, put_one, put_long, push, pop, pop_one, pop_two, an_int, a_ref, store_one, store_long, loaded, loaded_int, loaded_long, loaded_ref, store, shuffle_slots, freed, enter, room_of};
-ghost use Rattle.mvm_frame.specs.Parts.{stack_with};
+ghost use Rattle.mvm_frame.specs.Calls.{framed, refusal, put_one, put_long, push, pop, pop_one, pop_two, an_int, a_ref, store_one, store_long, loaded, loaded_int, loaded_long, loaded_ref, store, shuffle_slots, freed, enter, fits, place_of, room_of};
+ghost use Rattle.mvm_frame.specs.Parts.{frames_of, stack_with};
 ghost use Rattle.mvm_frame.specs.ShuffleRows.{shuffle_of};
 
 use crate::key::FrameKey;
 use crate::lay::lay;
+use crate::place::Place;
 use crate::refused::Refused;
 use crate::rows::{Row, Rows};
 use crate::shuffle_rows::{Shuffle, shuffle_of};
@@ -72,6 +73,29 @@ impl Stack {
             None
         } else {
             Some(self.top.key)
+        }
+    }
+
+    /// How many frames there are, the top one among them.
+    pub fn frames(&self) -> usize
+        ensures is { result ≡ length (frames_of self.now) }
+        ensures within { result ≤ self.now.rest.below.most }
+    {
+        self.callers.len()
+    }
+
+    /// What a caller runs, and its pc: at 0 the frame below the top one, at 1 the one below that, and so on. `None` exactly where
+    /// there are not so many.
+    pub fn caller(&self, at: usize) -> Option<Place>
+        ensures is { result ≡ option_map place_of (slice_get self.now.rest.below.callers at) }
+        ensures frame { IsSome result → IsSome self.now.rest.below.key }
+    {
+        match self.callers.waiting(at) {
+            Some(row) => Some(Place {
+                key: row.key,
+                pc: row.pc,
+            }),
+            None => None,
         }
     }
 
@@ -206,6 +230,15 @@ impl Stack {
         }
     }
 
+    /// Whether a frame of so many local variables and so deep an operand stack fits within the limits (JVM Specification 2.5.2):
+    /// `enter` and `enter_with` answer `Full` exactly where it does not.
+    #[inline]
+    pub fn fits(&self, locals: u16, depth: u16) -> bool
+        ensures { result ≡ fits locals depth self.now }
+    {
+        !self.callers.is_full() && locals as usize + depth as usize <= self.top.floor
+    }
+
     /// A new frame on top, with pc 0 and no operand, whose first local variables are so many slots of operands of the frame
     /// below, which go from there; the others are unset (JVM Specification 2.6.1). `Full` where the frames or the words would pass
     /// their limit. There are so many operands and local variables. Who calls it sees to it that no long is cut.
@@ -222,17 +255,12 @@ impl Stack {
         ensures does { Does result (enter key locals depth args self.old) self.new }
         ensures err { OnErr result (self.new ≡ self.old) }
     {
-        let locals = locals as usize;
-        let depth = depth as usize;
-        let base = self.top.floor;
-        if self.callers.is_full() {
-            return Err(Refused::Full);
-        }
-        if base < locals + depth {
+        if !self.fits(locals, depth) {
             return Err(Refused::Full);
         }
         let args = args as usize;
-        let bottom = base - locals;
+        let base = self.top.floor;
+        let bottom = base - locals as usize;
         let sp = self.top.sp;
         lay(&mut self.slots, sp, args, bottom, base);
         self.top.sp = sp + args;
@@ -240,7 +268,7 @@ impl Stack {
         self.top = Row {
             key,
             pc: 0,
-            floor: bottom - depth,
+            floor: bottom - depth as usize,
             sp: bottom,
             bottom,
             base,
@@ -518,7 +546,7 @@ impl Stack {
     pub fn waiting_room(&self) -> Option<usize>
         ensures { result ≡ room_of self.now.rest.below.callers }
     {
-        match self.callers.waiting() {
+        match self.callers.waiting(0) {
             Some(row) => Some(row.sp - row.floor),
             None => None,
         }
