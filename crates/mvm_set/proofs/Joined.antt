@@ -1,14 +1,14 @@
 -- What is put together from the classes above a file is the class of the whole family.
-use Rattle.std.proofs.Common.{◌≡◌, ℕ, List, [], ◌∷◌, ◌++◌, map, refl, sym, ap, ◌∙◌}
+use Rattle.std.proofs.Common.{◌≡◌, ℕ, List, [], ◌∷◌, ◌++◌, map, refl, sym, ap, ◌∙◌, append_assoc}
 use Rattle.mvm_layout.specs.declared.parts.Parts.{Parts}
 use Rattle.mvm_set.specs.Names.{own_name}
 use Rattle.mvm_set.specs.Once.{without, once}
-use Rattle.mvm_set.specs.Family.{Family, family, Families, none, more, file, name, line, lines, visited, all_visited, walk, order, orders, checked}
+use Rattle.mvm_set.specs.Family.{Family, family, Families, none, more, file, name, line, lines, visited, all_visited, walk, order, orders, checked, enumerated, all_enumerated, superinterfaces}
 use Rattle.mvm_set.specs.ClassOf.{own_walk_name, own_walk, class_of, classes_of}
-use Rattle.mvm_set.specs.Over.{file_of, lines_of, walks_of, checked_of, own_over, class_over}
+use Rattle.mvm_set.specs.Over.{file_of, itself, lines_of, walks_of, checked_of, enumerated_of, own_over, class_over}
 use Rattle.mvm_set.specs.declared.own.OwnWalk.{OwnWalk}
 use Rattle.mvm_set.specs.declared.class.Lineage.{Lineage}
-use Rattle.mvm_set.proofs.Once.{once-once, once-before, once-behind, once-map}
+use Rattle.mvm_set.proofs.Once.{once-once, once-left, once-before, once-behind, once-map}
 
 map-append : {A B : Type 0} (f : A → B) (xs ys : List A) → map f (xs ++ ys) ≡ map f xs ++ map f ys
 map-append f [] ys = refl
@@ -23,6 +23,10 @@ walks_in (more one others) = walk one ++ walks_in others
 abbrev checked_in : Families → List Family
 checked_in none = []
 checked_in (more one others) = checked one ++ checked_in others
+
+abbrev enumerated_in : Families → List Family
+enumerated_in none = []
+enumerated_in (more one others) = superinterfaces one ++ one ∷ enumerated_in others
 
 lines-are : (set : ℕ) (ones : Families) → lines_of (classes_of set ones) ≡ map own_walk (lines ones)
 unfolding class_of line
@@ -61,6 +65,15 @@ checked-once (more one others) =
     once-before name (checked one) (order one) (checked_in others) (once-once name (order one))
     ∙ once-behind name (order one) (checked_in others) (orders others) (checked-once others)
 
+enumerated-once : (ones : Families) → once name (enumerated_in ones) ≡ once name (all_enumerated ones)
+unfolding superinterfaces enumerated
+enumerated-once none = refl
+enumerated-once (more (family parts above across) others) =
+    let one = family parts above across in
+    once-left name (all_enumerated across) (one ∷ enumerated_in others)
+    ∙ once-behind name (all_enumerated across) (one ∷ enumerated_in others) (one ∷ all_enumerated others) (ap (λ (zs : List Family). one ∷ without name one zs) (enumerated-once others))
+    ∙ ap (once name) (sym (append_assoc (all_enumerated across) (one ∷ []) (all_enumerated others)))
+
 walk-over : (parts : Parts) (above across : Families) → once name (family parts above across ∷ walks_in across ++ walks_in above) ≡ walk (family parts above across)
 unfolding walk visited
 walk-over parts above across =
@@ -94,6 +107,27 @@ own-over set parts above across =
     ∙ once-map file own_name (family parts above across ∷ walks_in across ++ walks_in above)
     ∙ ap (map file) (walk-over parts above across))
 
+-- ---- superinterfaces
+
+class-itself : (set : ℕ) (one : Family) → itself (class_of set one) ≡ own_walk one
+unfolding class_of own_walk own_with
+class-itself set one = ap (own_with (file one)) (files-are (walk one))
+
+enumerated-are : (set : ℕ) (ones : Families) → enumerated_of (classes_of set ones) ≡ map own_walk (enumerated_in ones)
+unfolding class_of
+enumerated-are set none = refl
+enumerated-are set (more one others) =
+    ap (λ (own : OwnWalk). map own_walk (superinterfaces one) ++ own ∷ enumerated_of (classes_of set others)) (class-itself set one)
+    ∙ ap (λ (zs : List OwnWalk). map own_walk (superinterfaces one) ++ own_walk one ∷ zs) (enumerated-are set others)
+    ∙ sym (map-append own_walk (superinterfaces one) (one ∷ enumerated_in others))
+
+all_superinterfaces : (set : ℕ) (parts : Parts) (above across : Families) → once own_walk_name (enumerated_of (classes_of set across)) ≡ map own_walk (superinterfaces (family parts above across))
+unfolding own_walk superinterfaces
+all_superinterfaces set parts above across =
+    ap (once own_walk_name) (enumerated-are set across)
+    ∙ once-map own_walk own_walk_name (enumerated_in across)
+    ∙ ap (map own_walk) (enumerated-once across)
+
 -- ---- the class
 
 all_walk : (set : ℕ) (parts : Parts) (above across : Families) → once own_walk_name (own_walk (family parts above across) ∷ map own_walk (walks_in across ++ walks_in above)) ≡ map own_walk (walk (family parts above across))
@@ -113,8 +147,8 @@ all_checked set parts above across =
     ∙ once-map own_walk own_walk_name (family parts above across ∷ checked_in above ++ checked_in across)
     ∙ ap (map own_walk) (checked-over parts above across)
 
-abbrev lineage_with : ℕ → Parts → List OwnWalk → List OwnWalk → List OwnWalk → Lineage
-lineage_with set file line walk checked = record { set = set; file = file; line = line; walk = walk; checked = checked }
+abbrev lineage_with : ℕ → Parts → List OwnWalk → List OwnWalk → List OwnWalk → List OwnWalk → Lineage
+lineage_with set file line walk checked superinterfaces = record { set = set; file = file; line = line; walk = walk; checked = checked; superinterfaces = superinterfaces }
 
 pub class_law : (set : ℕ) (parts : Parts) (above across : Families) → class_over set parts (classes_of set above) (classes_of set across) ≡ class_of set (family parts above across)
 unfolding class_over class_of line
@@ -122,8 +156,12 @@ class_law set parts above across =
     let one = family parts above across in
     let rest = walks_of (classes_of set across) ++ walks_of (classes_of set above) in
     let checks = checked_of (classes_of set above) ++ checked_of (classes_of set across) in
-    ap (λ (own : OwnWalk). lineage_with set parts (own ∷ lines_of (classes_of set above)) (once own_walk_name (own ∷ rest)) (once own_walk_name (own ∷ checks))) (own-over set parts above across)
-    ∙ ap (λ (zs : List OwnWalk). lineage_with set parts (own_walk one ∷ zs) (once own_walk_name (own_walk one ∷ rest)) (once own_walk_name (own_walk one ∷ checks))) (lines-are set above)
-    ∙ ap (λ (zs : List OwnWalk). lineage_with set parts (own_walk one ∷ map own_walk (lines above)) (once own_walk_name (own_walk one ∷ zs)) (once own_walk_name (own_walk one ∷ checks))) (rest-are set across above)
-    ∙ ap (λ (zs : List OwnWalk). lineage_with set parts (own_walk one ∷ map own_walk (lines above)) zs (once own_walk_name (own_walk one ∷ checks))) (all_walk set parts above across)
-    ∙ ap (λ (zs : List OwnWalk). lineage_with set parts (own_walk one ∷ map own_walk (lines above)) (map own_walk (walk one)) zs) (all_checked set parts above across)
+    let enumerated = enumerated_of (classes_of set across) in
+    let over : OwnWalk → List OwnWalk → List OwnWalk → Lineage = λ own behind rest. lineage_with set parts (own ∷ behind) (once own_walk_name (own ∷ rest)) (once own_walk_name (own ∷ checks)) (once own_walk_name enumerated) in
+    let lines_one = own_walk one ∷ map own_walk (lines above) in
+    ap (λ (own : OwnWalk). over own (lines_of (classes_of set above)) rest) (own-over set parts above across)
+    ∙ ap (λ (zs : List OwnWalk). over (own_walk one) zs rest) (lines-are set above)
+    ∙ ap (λ (zs : List OwnWalk). over (own_walk one) (map own_walk (lines above)) zs) (rest-are set across above)
+    ∙ ap (λ (zs : List OwnWalk). lineage_with set parts lines_one zs (once own_walk_name (own_walk one ∷ checks)) (once own_walk_name enumerated)) (all_walk set parts above across)
+    ∙ ap (λ (zs : List OwnWalk). lineage_with set parts lines_one (map own_walk (walk one)) zs (once own_walk_name enumerated)) (all_checked set parts above across)
+    ∙ ap (λ (zs : List OwnWalk). lineage_with set parts lines_one (map own_walk (walk one)) (map own_walk (checked one)) zs) (all_superinterfaces set parts above across)

@@ -10,3 +10,4 @@ pub mod Over
 pub mod Kept
 pub mod Joined
 pub mod Walked
+pub mod Enumerated

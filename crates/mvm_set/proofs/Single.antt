@@ -1,8 +1,8 @@
 -- Lists in which each name stands once are joined: only the names of all but one of them may stand twice.
 use denote.Ref.{Bor}
-use Rattle.std.proofs.Common.{◌≡◌, ℕ, ◌+◌, ◌<◌, zero, suc, Bool, true, false, cond, List, [], ◌∷◌, ◌++◌, length, take, drop, Option, Some, None, refl, sym, ap, subst, ◌∙◌, append_assoc, arith}
+use Rattle.std.proofs.Common.{◌≡◌, ℕ, ◌+◌, ◌<◌, zero, suc, Bool, true, false, cond, List, [], ◌∷◌, ◌++◌, length, take, drop, Option, refl, sym, ap, subst, ◌∙◌, append_assoc, arith}
 use Rattle.std.specs.Prelude.{not, ◌&&◌, ◌||◌}
-use Rattle.std.specs.List.{All, filter, list_any}
+use Rattle.std.specs.List.{All, filter}
 use Rattle.std.proofs.lemmas.List.Elements.{filter_agree, All-head, All-tail}
 use Rattle.std.proofs.lemmas.List.Folds.{list_any-append}
 use Rattle.mvm_shape.specs.Members.{same_text}
@@ -28,7 +28,7 @@ and_false : (b : Bool) → (b && false) ≡ false
 and_false true = refl
 and_false false = refl
 
-not_left : (a b : Bool) → (a || b) ≡ false → a ≡ false
+pub not_left : (a b : Bool) → (a || b) ≡ false → a ≡ false
 not_left true b e = absurd cc
 not_left false b e = refl
 
@@ -130,6 +130,11 @@ single_lists repeats (suc i) (list ∷ lists) s = single_lists repeats i lists (
 
 -- ---- which names may stand twice
 
+-- more of them may
+pub single_more : (repeats next : Test) → ((other : Option (List ℕ)) → next other ≡ false → repeats other ≡ false) → (xs : List OwnWalk) → AreSingle repeats xs → AreSingle next xs
+single_more repeats next fewer [] s = tt
+single_more repeats next fewer (x ∷ xs) s = ((λ r. s.0 (fewer (own_walk_name x) r)), single_more repeats next fewer xs s.1)
+
 false_of : (b : Bool) → (b ≡ true → ⊥) → b ≡ false
 false_of true h = absurd (h refl)
 false_of false h = refl
@@ -224,9 +229,19 @@ begun repeats seen one all e xs =
     by other true f = rw (all other f) refl
     by other false f = and_false (repeats other)
 
+every : (test : OwnWalk → Bool) → ((x : OwnWalk) → test x ≡ true) → (xs : List OwnWalk) → filter test xs ≡ xs
+every test all [] = refl
+every test all (x ∷ xs) = rw (all x) (ap (λ (ys : List OwnWalk). x ∷ ys) (every test all xs))
+
+-- where none was met, all are left
+pub begun_none : (repeats seen : Test) → ((other : Option (List ℕ)) → seen other ≡ false) → (xs : List OwnWalk) → unmet repeats seen xs ≡ once own_walk_name xs
+begun_none repeats seen none xs =
+    every (λ own. not (is_met repeats seen (own_walk_name own)))
+    (λ own. ap (λ b. not (repeats (own_walk_name own) && b)) (none (own_walk_name own)) ∙ ap not (and_false (repeats (own_walk_name own)))) (once own_walk_name xs)
+
 -- ---- names are put together
 
-or_assoc : (a b c : Bool) → ((a || b) || c) ≡ (a || (b || c))
+pub or_assoc : (a b c : Bool) → ((a || b) || c) ≡ (a || (b || c))
 or_assoc true b c = refl
 or_assoc false b c = refl
 

@@ -145,7 +145,7 @@ any-once name test (x ∷ xs) = by (test (name x)) refl (any-once name test xs)
     by true e next = refl
     by false e next = any-weaker (λ y. test (name y)) (λ y. not (same_text (name y) (name x))) (λ y f. differs e y f (same_text (name y) (name x)) refl) (once name xs) ∙ next
 
-any-map : {A B : Type 0} (f : A → B) (test : B → Bool) (xs : List A) → list_any test (map f xs) ≡ list_any (λ x. test (f x)) xs
+pub any-map : {A B : Type 0} (f : A → B) (test : B → Bool) (xs : List A) → list_any test (map f xs) ≡ list_any (λ x. test (f x)) xs
 any-map f test [] = refl
 any-map f test (x ∷ xs) = ap (λ (b : Bool). test (f x) || b) (any-map f test xs)
 
@@ -155,14 +155,14 @@ subclass-visited set one n =
     any-map own_walk (λ own. is_called n own.file) (walk one)
     ∙ any-once name (λ found. is_text n found) (visited one)
 
-or_cases : (a b : Bool) → (a || b) ≡ true → (a ≡ true) ⊎ (b ≡ true)
+pub or_cases : (a b : Bool) → (a || b) ≡ true → (a ≡ true) ⊎ (b ≡ true)
 or_cases true b e = inl refl
 or_cases false b e = inr e
 
-or_left : (a b : Bool) → a ≡ true → (a || b) ≡ true
+pub or_left : (a b : Bool) → a ≡ true → (a || b) ≡ true
 or_left a b e = rw e refl
 
-or_right : (a b : Bool) → b ≡ true → (a || b) ≡ true
+pub or_right : (a b : Bool) → b ≡ true → (a || b) ≡ true
 or_right true b e = refl
 or_right false b e = e
 

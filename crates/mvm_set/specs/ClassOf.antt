@@ -1,7 +1,7 @@
 -- What stands for a family in memory: lists of files, of which each stands with its own order of field resolution, so that
 -- nothing has to be walked again.
 use Rattle.std.specs.Prelude.{ℕ, List, [], ◌∷◌, map, Option}
-use Rattle.mvm_set.specs.Family.{Family, Families, none, more, file, line, walk, checked}
+use Rattle.mvm_set.specs.Family.{Family, Families, none, more, file, line, walk, checked, superinterfaces}
 use Rattle.mvm_set.specs.Names.{own_name}
 use Rattle.mvm_set.specs.declared.own.OwnWalk.{OwnWalk}
 use Rattle.mvm_set.specs.declared.class.Lineage.{Lineage}
@@ -22,6 +22,7 @@ class_of set one = record {
   line = map own_walk (line one);
   walk = map own_walk (walk one);
   checked = map own_walk (checked one);
+  superinterfaces = map own_walk (superinterfaces one);
 }
 
 -- the classes of these families

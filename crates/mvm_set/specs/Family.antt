@@ -1,4 +1,4 @@
--- A class with all that it inherits from, as a tree, and the orders in which that is walked (JVM Specification 5.3.5, 5.4).
+-- A class with all that it inherits from, as a tree, and the orders in which that is walked (JVM Specification 5.3.5, 5.4, 5.5).
 use Rattle.std.specs.Prelude.{ℕ, List, [], ◌∷◌, ◌++◌, Option, None}
 use Rattle.mvm_layout.specs.declared.parts.Parts.{Parts}
 use Rattle.mvm_set.specs.Names.{own_name}
@@ -32,6 +32,16 @@ pub data Among : Family → Families → Type 0 where
 pub data Inherits : Family → Family → Type 0 where
   from_class : {parts : Parts} {above across : Families} {one : Family} → Among one above → Inherits (family parts above across) one
   from_interface : {parts : Parts} {above across : Families} {one : Family} → Among one across → Inherits (family parts above across) one
+
+-- one of these interfaces, or one of their superinterfaces
+pub data Extended : Family → Families → Type 0 where
+  direct : {one : Family} {others : Families} → Extended one (more one others)
+  direct_later : {one other : Family} {others : Families} → Extended one others → Extended one (more other others)
+  extended_first : {one : Family} {parts : Parts} {above across others : Families} → Extended one across → Extended one (more (family parts above across) others)
+
+-- it is a superinterface of the class, by the direct superinterfaces of the class alone: those of its superclass are not among them
+abbrev pub IsSuperinterface : Family → Family → Type 0
+IsSuperinterface one (family parts above across) = Extended one across
 
 -- ---- the superclasses
 
@@ -73,6 +83,24 @@ unfoldable mutual
 -- each class once, at its first place
 unfoldable pub checked : Family → List Family
 checked one = once name (order one)
+
+-- ---- the order in which superinterfaces are initialised (5.5, step 7)
+
+-- the superinterfaces of the interface by this rule, then the interface
+unfoldable mutual
+  pub enumerated : Family → List Family
+  enumerated (family parts above across) = all_enumerated across ++ family parts above across ∷ []
+
+  -- for each of these interfaces in order
+  pub all_enumerated : Families → List Family
+  all_enumerated none = []
+  all_enumerated (more one others) = enumerated one ++ all_enumerated others
+
+-- the superinterfaces of a class, each once, at its first place
+unfoldable pub superinterfaces : Family → List Family
+superinterfaces (family parts above across) = once name (all_enumerated across)
+
+-- ---- faults
 
 -- The class, then its superclass by this rule, then its direct superinterfaces in order by this rule: the first fault that a check
 -- tells.

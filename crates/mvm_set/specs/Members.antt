@@ -1,5 +1,8 @@
 -- The fields and methods of a file, by name and descriptor (JVM Specification 4.5, 4.6).
-use Rattle.std.specs.Prelude.{ℕ, ◌+◌, List, [], ◌∷◌, Bool, ◌&&◌, if◌then◌else◌, Option, Some, None, slice_get}
+use Rattle.std.specs.Prelude.{ℕ, ◌+◌, List, [], ◌∷◌, Bool, not, ◌&&◌, ◌||◌, if◌then◌else◌, Option, Some, None, slice_get}
+use Rattle.std.specs.List.{list_any}
+use Rattle.mvm_layout.specs.Flags.{has_flag, is_static}
+use Rattle.mvm_layout.specs.declared.flags.TheConstants as flag
 use Rattle.mvm_layout.specs.Pool.{text, is_text}
 use Rattle.mvm_layout.specs.declared.parts.Item.{Item}
 use Rattle.mvm_layout.specs.declared.parts.Member.{Member}
@@ -33,3 +36,12 @@ flags_in members None = None
 -- the access flags of a file's method of this name and descriptor, if it has one
 unfoldable pub flags_at : List ℕ → List ℕ → Parts → Option ℕ
 flags_at name desc file = flags_in file.methods (method_at name desc file)
+
+-- a method is neither abstract nor static
+abbrev pub is_concrete_instance_method : Member → Bool
+is_concrete_instance_method method = not (has_flag flag.ABSTRACT method.flags || is_static method.flags)
+
+-- A file declares a method that is neither abstract nor static: where it is an interface, it is initialised with a class of which it is
+-- a superinterface (5.5, step 7).
+unfoldable pub declares_concrete_instance_method : Parts → Bool
+declares_concrete_instance_method file = list_any is_concrete_instance_method file.methods

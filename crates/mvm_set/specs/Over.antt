@@ -1,5 +1,5 @@
 -- A class put together from its file and from the classes of its direct superclass and superinterfaces.
-use Rattle.std.specs.Prelude.{◌≡◌, ◌<◌, ◌^◌, ℕ, List, [], ◌∷◌, ◌++◌, length, map, not}
+use Rattle.std.specs.Prelude.{◌≡◌, ◌<◌, ◌^◌, ℕ, List, [], ◌∷◌, ◌++◌, length, map, not, take}
 use Rattle.std.specs.List.{filter}
 use Rattle.mvm_layout.specs.declared.parts.Parts.{Parts}
 use Rattle.mvm_shape.specs.Members.{same_text}
@@ -11,6 +11,10 @@ use Rattle.mvm_set.specs.declared.class.Lineage.{Lineage}
 
 abbrev pub file_of : OwnWalk → Parts
 file_of own = own.file
+
+-- the file of a class, with the files of its walk
+abbrev pub itself : Lineage → OwnWalk
+itself class = record { file = class.file; walk = map file_of class.walk }
 
 -- the lists of these classes, one after the other
 abbrev pub lines_of : List Lineage → List OwnWalk
@@ -24,6 +28,11 @@ walks_of (class ∷ classes) = class.walk ++ walks_of classes
 abbrev pub checked_of : List Lineage → List OwnWalk
 checked_of [] = []
 checked_of (class ∷ classes) = class.checked ++ checked_of classes
+
+-- the superinterfaces of each of these classes, then the class itself
+abbrev pub enumerated_of : List Lineage → List OwnWalk
+enumerated_of [] = []
+enumerated_of (class ∷ classes) = class.superinterfaces ++ itself class ∷ enumerated_of classes
 
 -- those of another class than the file's, each name once
 abbrev pub others_than : Parts → List OwnWalk → List OwnWalk
@@ -48,11 +57,14 @@ class_over set file above across = record {
   line = own_over file above across ∷ lines_of above;
   walk = once own_walk_name (own_over file above across ∷ walks_of across ++ walks_of above);
   checked = once own_walk_name (own_over file above across ∷ checked_of above ++ checked_of across);
+  superinterfaces = once own_walk_name (enumerated_of across);
 }
 
--- What every class keeps: each name stands once in its walk and once in its order of verification, and the places of its walk can
--- be counted in 32 bits.
+-- What every class keeps: it stands itself at the front of its line, each name stands once in each of its other lists, and the places
+-- of its walk can be counted in 32 bits.
 pub record IsClass (class : Lineage) : Type 0 where
+  pub first : take 1 class.line ≡ itself class ∷ []
   pub few : length class.walk < 2 ^ 32
   pub walk_once : once own_walk_name class.walk ≡ class.walk
   pub checked_once : once own_walk_name class.checked ≡ class.checked
+  pub superinterfaces_once : once own_walk_name class.superinterfaces ≡ class.superinterfaces

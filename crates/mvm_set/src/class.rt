@@ -1,9 +1,11 @@
-ghost use Rattle.std.specs.Prelude.{◌≡◌, ◌<◌, ◌^◌, length, IfOk};
+ghost use Rattle.std.specs.Prelude.{◌≡◌, ◌<◌, ◌^◌, [], ◌∷◌, length, IfOk};
 ghost use Rattle.mvm_set.specs.ClassOf.{own_walk_name};
 ghost use Rattle.mvm_set.specs.Once.{once};
-ghost use Rattle.mvm_set.specs.Over.{class_over};
+ghost use Rattle.mvm_set.specs.Over.{class_over, itself};
 
-use crate::join::{in_front, in_front_of_lines, other_checked, other_walks, own_of};
+use crate::join::{
+    in_front, in_front_of_lines, other_checked, other_walks, own_of, superinterfaces_of,
+};
 use crate::own::Own;
 use crate::shared::Shared;
 use mvm_base::{List, OutOfMemory};
@@ -29,6 +31,10 @@ pub struct Lineage {
     /// The order of verification (JVM Specification 5.4.1): the class, what its superclass has, what its direct superinterfaces
     /// have, in their order, each class once, at its first place.
     pub checked: List<Shared<Own>>,
+    /// The superinterfaces in the order in which they are initialised with a class (JVM Specification 5.5, step 7): for each direct
+    /// superinterface, in their order, its own superinterfaces by this rule, then itself, each once, at its first place. What the
+    /// superclass implements is not among them.
+    pub superinterfaces: List<Shared<Own>>,
 }
 
 /// A class of a set, of which the places can be counted in a u32.
@@ -67,6 +73,7 @@ impl Class {
     {
         let others = other_walks(alloc, file.get(), above, across)?;
         let checks = other_checked(alloc, file.get(), above, across)?;
+        let superinterfaces = superinterfaces_of(alloc, across)?;
         let own = own_of(alloc, file.share()?, others.as_slice())?;
         let line = in_front_of_lines(alloc, &own, above)?;
         let walk = in_front(&own, others)?;
@@ -80,6 +87,7 @@ impl Class {
             line,
             walk,
             checked,
+            superinterfaces,
         };
         Ok(Class { lineage })
     }
@@ -96,6 +104,13 @@ impl Class {
         ensures { result.now ≡ self.now.file }
     {
         self.lineage.file.get()
+    }
+
+    /// The class itself, alone: its file with its walk.
+    pub(crate) fn itself(&self) -> &[Shared<Own>]
+        ensures { result.now ≡ itself self.now ∷ [] }
+    {
+        &self.lineage.line.as_slice()[..1]
     }
 
     /// The class and its superclasses, nearest first.
@@ -122,5 +137,17 @@ impl Class {
         ensures once { once own_walk_name self.now.checked ≡ self.now.checked }
     {
         self.lineage.checked.as_slice()
+    }
+
+    /// The superinterfaces in the order in which they are initialised with a class (JVM Specification 5.5, step 7): for each direct
+    /// superinterface, in their order, its own superinterfaces by this rule, then itself. What the superclass implements is not among
+    /// them. Of these a class initialises the ones that declare a method that is neither abstract nor static, as
+    /// [`Own::declares_concrete_instance_method`] tells; an interface initialises none of them.
+    pub fn superinterfaces(&self) -> &[Shared<Own>]
+        ensures value { result.now ≡ self.now.superinterfaces }
+        // Each name stands there once.
+        ensures once { once own_walk_name self.now.superinterfaces ≡ self.now.superinterfaces }
+    {
+        self.lineage.superinterfaces.as_slice()
     }
 }

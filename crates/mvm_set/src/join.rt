@@ -2,8 +2,9 @@ ghost use Rattle.std.specs.Prelude.{◌≡◌, ◌<◌, ℕ, [], ◌∷◌, ◌+
 ghost use Rattle.mvm_shape.specs.Members.{same_text};
 ghost use Rattle.mvm_set.specs.ClassOf.{own_walk_name};
 ghost use Rattle.mvm_set.specs.Names.{own_name};
-ghost use Rattle.mvm_set.specs.Over.{file_of, others_than, own_of, lines_of, walks_of, checked_of};
-ghost use Rattle.mvm_set.specs.Seen.{is_seen, is_met, is_among, joined, IsOnce, AreSingle, Keeps};
+ghost use Rattle.mvm_set.specs.Once.{once};
+ghost use Rattle.mvm_set.specs.Over.{file_of, others_than, own_of, lines_of, walks_of, checked_of, enumerated_of};
+ghost use Rattle.mvm_set.specs.Seen.{is_seen, is_met, is_among, joined, IsOnce, AreSingle, unmet, Keeps};
 
 use crate::class::Class;
 use crate::names::own_name;
@@ -92,19 +93,15 @@ fn lists_behind<'a, 'b>(lists: &'b [&'a [Shared<Own>]], place: usize) -> &'b [&'
     &lists[place + 1..]
 }
 
-/// The names that may stand twice in these lists, where each stands once in each of them, and that of a file: the names of all of them but the
-/// longest.
+/// The names that may stand twice in these lists, where each stands once in each of them: the names of all of them but the longest.
 fn repeats_of<'a>(
     alloc: Global,
-    file: &'a ClassFile,
     lists: &[&'a [Shared<Own>]],
 ) -> Result<BTreeSet<&'a [u16]>, OutOfMemory>
     requires { All IsOnce lists.now }
-    ensures file { IfOk result (λ repeats. (other : Option (Items ℕ)) → same_text (own_name file.now) other ≡ true → is_seen repeats other ≡ true) }
-    ensures single { IfOk result (λ repeats. AreSingle (is_seen repeats) (joined lists.now)) }
+    ensures { IfOk result (λ repeats. AreSingle (is_seen repeats) (joined lists.now)) }
 {
     let mut repeats = BTreeSet::new(alloc);
-    meet_file(&mut repeats, file)?;
     if lists.is_empty() {
         return Ok(repeats);
     }
@@ -176,22 +173,49 @@ fn add_list<'a>(
     Ok(())
 }
 
+/// Adds the classes of some lists at the end whose names are new.
+fn add_lists<'a>(
+    repeats: &BTreeSet<&'a [u16]>,
+    seen: &mut BTreeSet<&'a [u16]>,
+    others: &mut Vec<Shared<Own>>,
+    lists: &[&'a [Shared<Own>]],
+) -> Result<(), OutOfMemory>
+    requires { AreSingle (is_seen repeats.now) (joined lists.now) }
+    ensures { OnOk result (others.new.items ≡ others.old.items ++ unmet (is_seen repeats.now) (is_seen seen.old) (joined lists.now)) }
+{
+    for i in 0..lists.len() {
+        add_list(repeats, seen, others, lists[i])?;
+    }
+    Ok(())
+}
+
+/// The classes of these lists, each name once, at its first place. In each list each name stands once.
+fn each_once(alloc: Global, lists: &[&[Shared<Own>]]) -> Result<List<Shared<Own>>, OutOfMemory>
+    requires { All IsOnce lists.now }
+    ensures { IfOk result (λ owns. owns ≡ once own_walk_name (joined lists.now)) }
+{
+    let repeats = repeats_of(alloc, lists)?;
+    let mut seen = BTreeSet::new(alloc);
+    let mut owns = Vec::new(alloc);
+    add_lists(&repeats, &mut seen, &mut owns, lists)?;
+    Ok(List::from_vec(owns))
+}
+
 /// Those of another class than the file's in these lists, each name once, at its first place. In each list each name stands once.
-fn others_than(
+fn others_than<'a>(
     alloc: Global,
-    file: &ClassFile,
-    lists: &[&[Shared<Own>]],
+    file: &'a ClassFile,
+    lists: &[&'a [Shared<Own>]],
 ) -> Result<Vec<Shared<Own>>, OutOfMemory>
     requires { All IsOnce lists.now }
     ensures { IfOk result (λ others. others.items ≡ others_than file.now (joined lists.now)) }
 {
-    let repeats = repeats_of(alloc, file, lists)?;
+    let mut repeats = repeats_of(alloc, lists)?;
+    meet_file(&mut repeats, file)?;
     let mut seen = BTreeSet::new(alloc);
-    let mut others = Vec::new(alloc);
     meet_file(&mut seen, file)?;
-    for i in 0..lists.len() {
-        add_list(&repeats, &mut seen, &mut others, lists[i])?;
-    }
+    let mut others = Vec::new(alloc);
+    add_lists(&repeats, &mut seen, &mut others, lists)?;
     Ok(others)
 }
 
@@ -221,6 +245,34 @@ fn add_checked<'a>(
         lists.push(classes[i].get().checked())?;
     }
     Ok(())
+}
+
+/// Adds at the end, for each of these classes, its superinterfaces in the order of initialisation, and then the class itself.
+fn add_enumerated<'a>(
+    lists: &mut Vec<&'a [Shared<Own>]>,
+    classes: &'a [Shared<Class>],
+) -> Result<(), OutOfMemory>
+    ensures joined { OnOk result (joined lists.new.items ≡ joined lists.old.items ++ enumerated_of classes.now) }
+    ensures once { OnOk result (All IsOnce lists.old.items → All IsOnce lists.new.items) }
+{
+    for i in 0..classes.len() {
+        let class = classes[i].get();
+        lists.push(class.superinterfaces())?;
+        lists.push(class.itself())?;
+    }
+    Ok(())
+}
+
+/// The superinterfaces of a class in the order of initialisation, from its direct superinterfaces.
+pub(crate) fn superinterfaces_of(
+    alloc: Global,
+    across: &[Shared<Class>],
+) -> Result<List<Shared<Own>>, OutOfMemory>
+    ensures { IfOk result (λ owns. owns ≡ once own_walk_name (enumerated_of across.now)) }
+{
+    let mut lists = Vec::new(alloc);
+    add_enumerated(&mut lists, across)?;
+    each_once(alloc, lists.as_slice())
 }
 
 /// What stands in the walk of a file behind it: what its superinterfaces have, then what its superclass has.

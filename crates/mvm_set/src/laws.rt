@@ -1,10 +1,11 @@
 //! What holds of classes and their lists, over the definitions alone.
 
-ghost use Rattle.std.specs.Prelude.{◌≡◌, ◌⊎◌, ℕ, List, Option, true};
+ghost use Rattle.std.specs.Prelude.{◌≡◌, ◌⊎◌, ℕ, List, ◌∷◌, ◌++◌, Option, true};
+ghost use Rattle.std.specs.List.{list_any};
 ghost use Rattle.mvm_layout.specs.declared.parts.Parts.{Parts as PartsOf};
 ghost use Rattle.mvm_set.specs.Names.{is_called};
 ghost use Rattle.mvm_set.specs.Once.{AreKept, first};
-ghost use Rattle.mvm_set.specs.Family.{Family, Families, family, file, name, visited, walk, Inherits, fault_in};
+ghost use Rattle.mvm_set.specs.Family.{Family, Families, family, file, name, visited, walk, Inherits, IsSuperinterface, fault_in, superinterfaces};
 ghost use Rattle.mvm_set.specs.ClassOf.{class_of, classes_of};
 ghost use Rattle.mvm_set.specs.Over.{class_over};
 ghost use Rattle.mvm_set.specs.Fields.{first_in, declared_by, found_in, told};
@@ -32,4 +33,12 @@ pub fn subclass_law()
     ensures only { (set : ℕ) (one : Family) (n : List ℕ) → is_subclass (class_of set one) n ≡ true → (other : Family) × ((other ≡ one) ⊎ Inherits one other) × (is_called n (file other) ≡ true) }
     ensures itself { (set : ℕ) (one : Family) (n : List ℕ) → is_called n (file one) ≡ true → is_subclass (class_of set one) n ≡ true }
     ensures inherited { (set : ℕ) (one other : Family) (n : List ℕ) → Inherits one other → is_called n (file other) ≡ true → is_subclass (class_of set one) n ≡ true }
+{}
+
+/// The superinterfaces that a class has by its direct superinterfaces are listed, and no others, each by its name; and each stands
+/// behind its own superinterfaces (JVM Specification 5.5, step 7).
+pub fn superinterfaces_law()
+    ensures only { (set : ℕ) (one : Family) (n : List ℕ) → list_any (λ own. is_called n own.file) (class_of set one).superinterfaces ≡ true → (other : Family) × IsSuperinterface other one × (is_called n (file other) ≡ true) }
+    ensures all { (set : ℕ) (one other : Family) (n : List ℕ) → IsSuperinterface other one → is_called n (file other) ≡ true → list_any (λ own. is_called n own.file) (class_of set one).superinterfaces ≡ true }
+    ensures behind { (one other over : Family) (before behind : List Family) (n : List ℕ) → superinterfaces one ≡ before ++ other ∷ behind → IsSuperinterface over other → is_called n (file over) ≡ true → list_any (λ (earlier : Family). is_called n (file earlier)) before ≡ true }
 {}

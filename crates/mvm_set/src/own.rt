@@ -1,12 +1,14 @@
 ghost use Rattle.std.specs.Prelude.{◌≡◌, false, IfOk};
+ghost use Rattle.std.specs.List.{list_any};
 ghost use Rattle.mvm_set.specs.FieldPlaces.{count_of, fields_before, ArePlaces};
-ghost use Rattle.mvm_set.specs.Members.{field_at, method_at, flags_at};
+ghost use Rattle.mvm_set.specs.Members.{field_at, method_at, flags_at, is_concrete_instance_method, declares_concrete_instance_method};
 
 use crate::field_places::FieldPlaces;
 use crate::index::Index;
 use crate::shared::Shared;
 use mvm_base::{List, Name, OutOfMemory};
-use mvm_classfile::ClassFile;
+use mvm_classfile::{ClassFile, Member};
+use mvm_layout::flags::{ABSTRACT, has_flag, is_static};
 use std::alloc::Global;
 use std::marker::Model;
 
@@ -20,24 +22,28 @@ pub struct OwnWalk {
     pub walk: List<Shared<ClassFile>>,
 }
 
-/// A file with the walk of its own class, an index of the file's members, and its fields counted by sort.
+/// A file with the walk of its own class, an index of the file's members, its fields counted by sort, and whether a method of the file
+/// is neither abstract nor static.
 #[derive(Debug, Drop)]
 pub struct Own {
     own: OwnWalk,
     index: Index,
     places: FieldPlaces,
+    concrete: bool,
 }
 
 impl Model for Own {
     ghost use Rattle.mvm_set.specs.declared.own.OwnWalk.{OwnWalk as OwnWalkOf};
+    ghost use Rattle.std.specs.Prelude.{◌≡◌};
     ghost use Rattle.mvm_set.specs.FieldPlaces.{ArePlaces};
     ghost use Rattle.mvm_set.specs.IndexOf.{IsIndexOf};
+    ghost use Rattle.mvm_set.specs.Members.{declares_concrete_instance_method};
 
     ghost Value = { OwnWalkOf };
 
     ghost view = { λ o. o.own };
 
-    ghost invariant = { λ o. IsIndexOf o.own.file o.index × ArePlaces o.own.file.fields o.places };
+    ghost invariant = { λ o. IsIndexOf o.own.file o.index × ArePlaces o.own.file.fields o.places × (o.concrete ≡ declares_concrete_instance_method o.own.file) };
 }
 
 /// The fields of a file, counted by sort.
@@ -47,13 +53,40 @@ fn field_places(alloc: Global, file: &ClassFile) -> Result<FieldPlaces, OutOfMem
     FieldPlaces::new(alloc, file.parts().fields.as_slice())
 }
 
+/// Whether one of these methods is neither abstract nor static.
+fn has_concrete_instance_method(methods: &[Member]) -> bool
+    ensures { result ≡ list_any is_concrete_instance_method methods.now }
+{
+    for i in 0..methods.len() {
+        let flags = methods[i].flags;
+        if !(has_flag(ABSTRACT, flags) || is_static(flags)) {
+            return true;
+        }
+    }
+    false
+}
+
+/// Whether a file declares a method that is neither abstract nor static.
+#[tactic(auto, unfolding(crate::specs::Members::declares_concrete_instance_method))]
+fn declares_concrete_instance_method(file: &ClassFile) -> bool
+    ensures { result ≡ declares_concrete_instance_method file.now }
+{
+    has_concrete_instance_method(file.parts().methods.as_slice())
+}
+
 impl Own {
     pub(crate) fn new(alloc: Global, own: OwnWalk) -> Result<Own, OutOfMemory>
         ensures { IfOk result (λ made. made ≡ own) }
     {
         let index = Index::new(alloc, own.file.get())?;
         let places = field_places(alloc, own.file.get())?;
-        Ok(Own { own, index, places })
+        let concrete = declares_concrete_instance_method(own.file.get());
+        Ok(Own {
+            own,
+            index,
+            places,
+            concrete,
+        })
     }
 
     /// The file, as one owner of it.
@@ -121,5 +154,13 @@ impl Own {
         ensures { result ≡ count_of false self.now.file.fields }
     {
         self.places.instance()
+    }
+
+    /// Whether the file declares a method that is neither abstract nor static. A superinterface that does is initialised with a class
+    /// (JVM Specification 5.5, step 7).
+    pub fn declares_concrete_instance_method(&self) -> bool
+        ensures { result ≡ declares_concrete_instance_method self.now.file }
+    {
+        self.concrete
     }
 }

@@ -1,7 +1,0 @@
-use Rattle.std.proofs.Common.{◌≡◌, ◌++◌, drop}
-use Rattle.mvm_set.specs.Over.{others_than}
-use Rattle.mvm_set.specs.Seen.{is_seen, joined, unmet}
-use Rattle.mvm_set.proofs.join.others_than.Given as goal
-
-abbrev pub invariant-loop-i : goal.invariant-loop-i
-invariant-loop-i l = l.others.items ++ unmet (is_seen l.repeats) (is_seen l.seen) (joined (drop l.i l.lists)) ≡ others_than l.file (joined l.lists)
