@@ -64,6 +64,13 @@ impl Heap {
         Ok(())
     }
 
+    /// How many objects there are. They are numbered from 0.
+    pub fn count(&self) -> u32
+        ensures { result ≡ length self.now.state.objects }
+    {
+        self.store.count()
+    }
+
     /// How many words the objects take.
     pub fn used(&self) -> u32
         ensures { result ≡ words self.now.state.objects }

@@ -51,6 +51,13 @@ impl Store {
         self.region.size() - self.region.left()
     }
 
+    /// How many objects there are.
+    pub fn count(&self) -> u32
+        ensures { result ≡ length self.now.objects }
+    {
+        self.directory.len() as u32
+    }
+
     /// How many words are left.
     pub fn left(&self) -> u32
         ensures { result + words self.now.objects ≡ self.now.size }

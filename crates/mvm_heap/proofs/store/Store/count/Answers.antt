@@ -1,0 +1,11 @@
+use Rattle.std.proofs.Common.{◌≡◌, arith, length, subst}
+use Rattle.mvm_heap.specs.Objects.{Stored}
+use Rattle.mvm_heap.proofs.Stores.{two_each, count}
+use Rattle.mvm_heap.proofs.store.Store.count.Goals as goal
+
+pub overflow_cast-result : goal.overflow_cast-result
+overflow_cast-result c = record { fits = omega (arith, c.self.inside.directory.ok.0, two_each _ _ _ c.self.invariant.packed, c.self.invariant.packed.within, c.self.invariant.packed.small) }
+
+pub returns : goal.returns
+returns c =
+    subst (λ (h : Stored). c.len.result ≡ length h.objects) c.self.view_is (omega (arith, c.len.ensures, c.self.inside.directory.ok.0, count c.self.inside.region.words c.self.inside.directory.items))
