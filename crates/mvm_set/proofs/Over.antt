@@ -47,9 +47,9 @@ over_itself : (set : ℕ) (file : Parts) (above across : List Lineage) → own_o
 unfolding class_over own_over own_with
 over_itself set file above across = ap (own_with file) (once-map file_of own_name (own_over file above across ∷ walks_of across ++ walks_of above))
 
-pub class_kept : (set : ℕ) (file : Parts) (above across : List Lineage) (lineage : Lineage) → lineage ≡ class_over set file above across → length lineage.walk < 2 ^ 32 → IsClass lineage
+pub class_kept : (set : ℕ) (file : Parts) (above across : List Lineage) (lineage : Lineage) → lineage ≡ class_over set file above across → length lineage.walk < 2 ^ 32 → length lineage.superinterfaces < 2 ^ 32 → IsClass lineage
 unfolding class_over
-class_kept set file above across lineage e few =
+class_kept set file above across lineage e few few_superinterfaces =
     let own = own_over file above across in
     let walk : lineage.walk ≡ once own_walk_name (own ∷ walks_of across ++ walks_of above) = ap (λ (class : Lineage). class.walk) e in
     let checked : lineage.checked ≡ once own_walk_name (own ∷ checked_of above ++ checked_of across) = ap (λ (class : Lineage). class.checked) e in
@@ -58,6 +58,7 @@ class_kept set file above across lineage e few =
     record {
       first = ap (take 1) line ∙ ap (λ (one : OwnWalk). one ∷ []) (over_itself set file above across ∙ ap itself (sym e));
       few = few;
+      few_superinterfaces = few_superinterfaces;
       walk_once = ap (once own_walk_name) walk ∙ once-once own_walk_name (own ∷ walks_of across ++ walks_of above) ∙ sym walk;
       checked_once = ap (once own_walk_name) checked ∙ once-once own_walk_name (own ∷ checked_of above ++ checked_of across) ∙ sym checked;
       superinterfaces_once = ap (once own_walk_name) superinterfaces ∙ once-once own_walk_name (enumerated_of across) ∙ sym superinterfaces;

@@ -61,10 +61,11 @@ class_over set file above across = record {
 }
 
 -- What every class keeps: it stands itself at the front of its line, each name stands once in each of its other lists, and the places
--- of its walk can be counted in 32 bits.
+-- of its walk and of its superinterfaces can be counted in 32 bits.
 pub record IsClass (class : Lineage) : Type 0 where
   pub first : take 1 class.line ≡ itself class ∷ []
   pub few : length class.walk < 2 ^ 32
+  pub few_superinterfaces : length class.superinterfaces < 2 ^ 32
   pub walk_once : once own_walk_name class.walk ≡ class.walk
   pub checked_once : once own_walk_name class.checked ≡ class.checked
   pub superinterfaces_once : once own_walk_name class.superinterfaces ≡ class.superinterfaces

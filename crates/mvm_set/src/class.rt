@@ -60,7 +60,7 @@ impl Class {
     ///
     /// # Errors
     ///
-    /// `OutOfMemory` where memory runs out, and where the walk would have 2^32 classes.
+    /// `OutOfMemory` where memory runs out, and where the walk or the superinterfaces would be 2^32 classes.
     #[tactic(auto, using(crate::proofs::Over::class_made))]
     pub fn over(
         alloc: Global,
@@ -78,7 +78,7 @@ impl Class {
         let line = in_front_of_lines(alloc, &own, above)?;
         let walk = in_front(&own, others)?;
         let checked = in_front(&own, checks)?;
-        if walk.len() > MOST_CLASSES {
+        if walk.len() > MOST_CLASSES || superinterfaces.len() > MOST_CLASSES {
             return Err(OutOfMemory);
         }
         let lineage = Lineage {
@@ -139,12 +139,13 @@ impl Class {
         self.lineage.checked.as_slice()
     }
 
-    /// The superinterfaces in the order in which they are initialised with a class (JVM Specification 5.5, step 7): for each direct
-    /// superinterface, in their order, its own superinterfaces by this rule, then itself. What the superclass implements is not among
-    /// them. Of these a class initialises the ones that declare a method that is neither abstract nor static, as
+    /// The superinterfaces in the order in which they are initialised with a class (JVM Specification 5.5, step 7), fewer than 2^32: for
+    /// each direct superinterface, in their order, its own superinterfaces by this rule, then itself. What the superclass implements is
+    /// not among them. Of these a class initialises the ones that declare a method that is neither abstract nor static, as
     /// [`Own::declares_concrete_instance_method`] tells; an interface initialises none of them.
     pub fn superinterfaces(&self) -> &[Shared<Own>]
         ensures value { result.now ≡ self.now.superinterfaces }
+        ensures few { length self.now.superinterfaces < 2 ^ 32 }
         // Each name stands there once.
         ensures once { once own_walk_name self.now.superinterfaces ≡ self.now.superinterfaces }
     {
