@@ -1,5 +1,5 @@
 -- The threads that wait on objects, the one that waits longest first (Java Language Specification, SE 8, 17.2).
-use Rattle.std.specs.Prelude.{ℕ, ◌<◌, ◌≤◌, List, [], ◌∷◌, map, All, if◌then◌else◌, ◌==◌, eqb, Option, Some, None}
+use Rattle.std.specs.Prelude.{ℕ, ◌<◌, ◌≤◌, List, [], ◌∷◌, map, All, if◌then◌else◌, ◌==◌, eqb, nat_lt, Bool, true, not, ◌&&◌, Option, Some, None}
 use Rattle.std.specs.List.{IsDistinct}
 use Rattle.mvm_monitor.specs.declared.waits.Waiter.{Waiter}
 
@@ -17,6 +17,15 @@ longest object (waiter ∷ waiters) = if waiter.object == object then Some waite
 abbrev pub woken : ℕ → List Waiter → List Waiter
 woken object [] = []
 woken object (waiter ∷ waiters) = if waiter.object == object then waiters else waiter ∷ woken object waiters
+
+-- the thread is none of those that wait
+abbrev pub is_awake : ℕ → List Waiter → Bool
+is_awake thread [] = true
+is_awake thread (waiter ∷ waiters) = not (waiter.thread == thread) && is_awake thread waiters
+
+-- the thread is one of those that there can be, and does not wait yet
+abbrev pub may_wait : ℕ → Waits → Bool
+may_wait thread waits = nat_lt thread waits.threads && is_awake thread waits.waiters
 
 abbrev pub threads_of : List Waiter → List ℕ
 threads_of waiters = map (λ waiter. waiter.thread) waiters

@@ -1,6 +1,6 @@
 ghost use Rattle.std.specs.Prelude.{◌≡◌, ◌≢◌, ◌<◌, ◌++◌, [], ◌∷◌, length, All, IfOk, IfSome, IfNone, None, Some};
 ghost use Rattle.std.specs.List.{remove, HoldsAt};
-ghost use Rattle.mvm_monitor.specs.Waits.{longest, woken, Waits};
+ghost use Rattle.mvm_monitor.specs.Waits.{is_awake, longest, may_wait, woken, Waits};
 
 use mvm_base::OutOfMemory;
 use std::alloc::Global;
@@ -42,6 +42,13 @@ impl WaitList {
         Ok(WaitList { threads, waiters })
     }
 
+    /// Whether a thread may begin to wait: it is one of those that there can be, and does not wait yet.
+    pub fn may_wait(&self, thread: u32) -> bool
+        ensures { result ≡ may_wait thread self.now }
+    {
+        thread < self.threads && is_awake(&self.waiters, thread)
+    }
+
     /// A thread that does not wait yet begins to wait on an object, behind all others. It takes no memory.
     pub fn add(&mut self, object: u32, thread: u32)
         requires known { thread < self.old.threads }
@@ -78,4 +85,16 @@ fn place_of(waiters: &[Waiter], object: u32) -> Option<usize>
         }
     }
     None
+}
+
+/// Whether a thread is none of those that wait.
+fn is_awake(waiters: &[Waiter], thread: u32) -> bool
+    ensures { result ≡ is_awake thread waiters.now }
+{
+    for waiter in waiters {
+        if waiter.thread == thread {
+            return false;
+        }
+    }
+    true
 }
