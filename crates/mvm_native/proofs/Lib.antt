@@ -5,3 +5,9 @@ pub mod Objects
 pub mod Builders
 pub mod Inverse
 pub mod Appended
+pub mod Counted
+pub mod Tested
+pub mod Unclassed
+pub mod Same
+pub mod Kept
+pub mod FitsSame

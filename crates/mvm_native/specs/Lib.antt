@@ -11,3 +11,5 @@ pub mod Throwables
 pub mod Isolates
 pub mod Links
 pub mod Calls
+pub mod Needs
+pub mod Unclassed

@@ -6,6 +6,10 @@
 //! OutOfMemoryError, and one that would print more than the limit ends the isolate; both change nothing. What a thread has to do
 //! beyond its isolate's objects and output (start, join, wait, wake others, send, ask) is in the answer, [`Out`], and is done by
 //! who called. [`native_law`] and [`builder_law`] say what parseInt and StringBuilder do in other words than their definitions.
+//!
+//! [`fits`] finds out whether a call may be made: whether the arguments are what the method takes them for. [`fits_law`] says that it
+//! is true exactly there, and [`unclassed_law`] that a native method looks at no class number, and leaves of each object its sort and
+//! its class number.
 #![tactic(auto)]
 
 mod arguments;
@@ -16,6 +20,7 @@ mod integer;
 mod isolate;
 mod laws;
 mod link;
+mod needs;
 mod object;
 mod out;
 mod print_stream;
@@ -25,9 +30,11 @@ mod texts;
 mod thread;
 mod throwable;
 
+pub use arguments::{int_arg, ref_arg, word_arg};
 pub use calls::call;
 pub use env::{Env, LinkUse};
-pub use laws::{builder_law, native_law};
+pub use laws::{builder_law, fits_law, native_law, unclassed_law};
 pub use link::{End, Sendable};
+pub use needs::fits;
 pub use out::{Act, Out, Thrown};
 pub use texts::ValueKind;

@@ -135,7 +135,7 @@ fn same_units(heap: &Heap, string: u32, other: u32) -> bool
 }
 
 /// Whether it is a text.
-fn is_text(heap: &Heap, object: u32) -> bool
+pub fn is_text(heap: &Heap, object: u32) -> bool
     requires { object < length heap.now.state.objects }
     ensures { result ≡ is_text (object_at heap.now.state.objects object).sort }
 {
