@@ -6,11 +6,10 @@ ghost use Rattle.mvm_builtin.specs.declared.natives.Native.TheVariants.{AppendCh
 ghost use Rattle.mvm_native.specs.Builders.{IsBuilder};
 ghost use Rattle.mvm_native.specs.declared.out.Out.TheVariants.{Value};
 
-use crate::fits::is_builder;
-use crate::natives::{answer_of, isolate, newest};
+use crate::natives::{answer_of, isolate, new_object};
 use mvm_base::{OutOfMemory, Word};
 use mvm_builtin::{Native, native_at};
-use mvm_native::{Env, Out, call};
+use mvm_native::{Env, Out, call, fits};
 use std::alloc::Global;
 
 /// How many words the heap has.
@@ -54,9 +53,21 @@ fn append_all(env: &mut Env, number: u16, builder: u32, count: u32) -> Result<bo
     Ok(true)
 }
 
+/// Whether the native method of a number appends a char to a builder, and an object is one.
+#[tactic(auto, unfolding(mvm_native::specs::Calls::Fits))]
+fn appends_to(env: &Env, number: u16, builder: u32) -> bool
+    ensures native { result ≡ true → native_at number ≡ Some AppendChar }
+    ensures builder { result ≡ true → IsBuilder env.now.heap.state.objects builder }
+{
+    if native_at(number) != Some(Native::AppendChar) {
+        return false;
+    }
+    fits(env, number, &[Word::Ref(builder)])
+}
+
 /// A builder with no units, if one can be made.
 fn builder_in(env: &mut Env) -> Result<Option<u32>, OutOfMemory> {
-    let Some(builder) = newest(&mut env.heap) else {
+    let Some(builder) = new_object(&mut env.heap) else {
         return Ok(None);
     };
     match answer_of(env, Native::InitBuilder.number(), &[Word::Ref(builder)])? {
@@ -71,11 +82,8 @@ pub(crate) fn time_appends(alloc: Global, count: u32, size: u32) -> Result<bool,
     let Some(builder) = builder_in(&mut env)? else {
         return Ok(false);
     };
-    let Some(last) = newest(&mut env.heap) else {
-        return Ok(false);
-    };
     let number = Native::AppendChar.number();
-    if native_at(number) != Some(Native::AppendChar) || !is_builder(&env.heap, last, builder) {
+    if !appends_to(&env, number, builder) {
         return Ok(false);
     }
     Ok(

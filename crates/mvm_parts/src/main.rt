@@ -9,7 +9,6 @@
 #![tactic(auto)]
 
 mod appends;
-mod fits;
 mod instruction;
 mod natives;
 #[cfg(test)]

@@ -1,16 +1,15 @@
 // Rows of native methods: values, and the methods that are called with them.
-ghost use Rattle.std.specs.Prelude.{◌<◌, length, IfSome};
+ghost use Rattle.std.specs.Prelude.{◌≡◌, true};
 ghost use Rattle.mvm_native.specs.Texts.{IsText};
 
-use crate::fits::{fits, is_text};
 use crate::row::{tell_word, word_of};
 use crate::times::heap_of;
 use mvm_base::{Line, List, Name, OutOfMemory, Word};
-use mvm_builtin::{native_at, native_number};
+use mvm_builtin::{Native, native_at, native_number};
 use mvm_heap::Heap;
 use mvm_history::{Launch, Limits, LinkRow};
 use mvm_monitor::WaitList;
-use mvm_native::{Env, Out, call};
+use mvm_native::{Env, Out, call, fits};
 use std::alloc::Global;
 use std::io;
 
@@ -43,10 +42,8 @@ pub(crate) fn isolate(alloc: Global, words: u32) -> Result<Env, OutOfMemory> {
     })
 }
 
-/// A new object, whose number is the greatest of all. `None` where the heap is full.
-pub fn newest(heap: &mut Heap) -> Option<u32>
-    ensures { IfSome result (λ n. n < length heap.new.state.objects) }
-{
+/// A new object with two fields. `None` where the heap is full.
+pub(crate) fn new_object(heap: &mut Heap) -> Option<u32> {
     match heap.alloc_object(0, 2) {
         Ok(object) => Some(object),
         Err(_) => None,
@@ -80,7 +77,7 @@ fn text(heap: &mut Heap, units: &[u16]) -> Option<Word> {
 fn value_of(env: &mut Env, part: &str) -> Result<Option<Word>, OutOfMemory> {
     match part {
         "null" => Ok(Some(Word::Null)),
-        "object" => Ok(newest(&mut env.heap).map(Word::Ref)),
+        "object" => Ok(new_object(&mut env.heap).map(Word::Ref)),
         "T" => Ok(text(&mut env.heap, &[])),
         _ => match part.strip_prefix("T") {
             Some(listed) => match units_of(env.alloc, listed)? {
@@ -112,13 +109,10 @@ pub(crate) fn answer_of(
     number: u16,
     values: &[Word],
 ) -> Result<Option<Out>, OutOfMemory> {
-    let Some(last) = newest(&mut env.heap) else {
+    if !fits(env, number, values) {
         return Ok(None);
-    };
-    match native_at(number) {
-        Some(native) if fits(env, last, native, values) => Ok(Some(call(env, number, values)?)),
-        _ => Ok(None),
     }
+    Ok(Some(call(env, number, values)?))
 }
 
 /// What is left after a part of a row.
@@ -204,12 +198,24 @@ fn units_in(alloc: Global, heap: &Heap, text: u32) -> Result<Vec<u16>, OutOfMemo
     Ok(units)
 }
 
+/// Whether an object is a text, so that it has the methods of String.
+#[tactic(auto, unfolding(mvm_native::specs::Calls::Fits))]
+fn is_text(env: &Env, object: u32) -> bool
+    ensures { result ≡ true → IsText env.now.heap.state.objects object }
+{
+    let number = Native::StringLength.number();
+    if native_at(number) != Some(Native::StringLength) {
+        return false;
+    }
+    fits(env, number, &[Word::Ref(object)])
+}
+
 /// Tells a value: a text by its units, an int, a long, null, or that it is another object.
-fn tell_value(rt: &HostRuntime, env: &mut Env, word: Word) -> io::Result<()> {
-    let (Word::Ref(object), Some(last)) = (word, newest(&mut env.heap)) else {
+fn tell_value(rt: &HostRuntime, env: &Env, word: Word) -> io::Result<()> {
+    let Word::Ref(object) = word else {
         return tell_word(rt, true, word);
     };
-    if !is_text(&env.heap, last, object) {
+    if !is_text(env, object) {
         return print!(rt; "object");
     }
     let units = units_in(rt.alloc(), &env.heap, object).map_err(refused)?;
@@ -226,7 +232,7 @@ fn printed(env: &Env) -> Result<Vec<u16>, OutOfMemory> {
 }
 
 /// Tells what is left of the values of a row, if anything, and what was printed.
-fn tell_left(rt: &HostRuntime, env: &mut Env, values: &[Word]) -> io::Result<()> {
+fn tell_left(rt: &HostRuntime, env: &Env, values: &[Word]) -> io::Result<()> {
     for word in values {
         tell_value(rt, env, *word)?;
         print!(rt; " ")?;
@@ -246,7 +252,7 @@ pub(crate) fn tell_calls(rt: &HostRuntime, parts: &[&str]) -> io::Result<bool> {
     let mut env = isolate(rt.alloc(), WORDS).map_err(refused)?;
     match after_all(&mut env, parts).map_err(refused)? {
         After::Values(values) => {
-            tell_left(rt, &mut env, values.as_slice())?;
+            tell_left(rt, &env, values.as_slice())?;
             Ok(true)
         }
         After::Ends(out) => {
