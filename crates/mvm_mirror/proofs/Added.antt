@@ -16,16 +16,16 @@ use Rattle.mvm_mirror.proofs.Numbers.{same, named, is_called_so, number_or, numb
 use Rattle.mvm_mirror.proofs.Places.{zero_at}
 use Rattle.mvm_mirror.proofs.Changed.{seen_is}
 
-get_push_last : {X : Type 0} (xs : List X) (y : X) → slice_get (xs ++ y ∷ []) (length xs) ≡ Some y
+pub get_push_last : {X : Type 0} (xs : List X) (y : X) → slice_get (xs ++ y ∷ []) (length xs) ≡ Some y
 get_push_last [] y = refl
 get_push_last (x ∷ xs) y = get_push_last xs y
 
-get_push_below : {X : Type 0} (xs : List X) (y : X) (k : ℕ) → k < length xs → slice_get (xs ++ y ∷ []) k ≡ slice_get xs k
+pub get_push_below : {X : Type 0} (xs : List X) (y : X) (k : ℕ) → k < length xs → slice_get (xs ++ y ∷ []) k ≡ slice_get xs k
 get_push_below [] y k h = absurd (omega (arith, h))
 get_push_below (x ∷ xs) y zero h = refl
 get_push_below (x ∷ xs) y (suc k) h = get_push_below xs y k (omega (arith, h))
 
-get_push : {X : Type 0} (xs : List X) (y z : X) (k : ℕ) → slice_get (xs ++ y ∷ []) k ≡ Some z → (slice_get xs k ≡ Some z) ⊎ ((y ≡ z) × (length xs ≡ k))
+pub get_push : {X : Type 0} (xs : List X) (y z : X) (k : ℕ) → slice_get (xs ++ y ∷ []) k ≡ Some z → (slice_get xs k ≡ Some z) ⊎ ((y ≡ z) × (length xs ≡ k))
 get_push [] y z zero e = let h : y ≡ z = cc in inr (h, refl)
 get_push [] y z (suc k) e = absurd cc
 get_push (x ∷ xs) y z zero e = inl e

@@ -16,12 +16,12 @@ use Rattle.mvm_mirror.specs.Kept.{classes_of, mirror_of, state_in, static_in, ob
 use Rattle.mvm_mirror.proofs.Numbers.{same, itself, number_same}
 use Rattle.mvm_mirror.proofs.Places.{written, place_below}
 
-get_set_same : {X : Type 0} (xs : List X) (n : ℕ) (x y : X) → slice_get xs n ≡ Some y → slice_get (slice_set xs n x) n ≡ Some x
+pub get_set_same : {X : Type 0} (xs : List X) (n : ℕ) (x y : X) → slice_get xs n ≡ Some y → slice_get (slice_set xs n x) n ≡ Some x
 get_set_same [] n x y e = absurd cc
 get_set_same (z ∷ xs) zero x y e = refl
 get_set_same (z ∷ xs) (suc n) x y e = get_set_same xs n x y e
 
-get_set_other : {X : Type 0} (xs : List X) (n k : ℕ) (x : X) → (k ≡ n → ⊥) → slice_get (slice_set xs n x) k ≡ slice_get xs k
+pub get_set_other : {X : Type 0} (xs : List X) (n k : ℕ) (x : X) → (k ≡ n → ⊥) → slice_get (slice_set xs n x) k ≡ slice_get xs k
 get_set_other [] n k x f = refl
 get_set_other (z ∷ xs) zero zero x f = absurd (f refl)
 get_set_other (z ∷ xs) zero (suc k) x f = refl

@@ -2,3 +2,8 @@ pub mod Numbers
 pub mod Places
 pub mod Changed
 pub mod Added
+pub mod SameShape
+pub mod Keyed
+pub mod ArrayRows
+pub mod Staying
+pub mod Slots

@@ -2,3 +2,8 @@ pub mod States
 pub mod Statics
 pub mod Seen
 pub mod Kept
+pub mod Shapes
+pub mod Arrays
+pub mod ShapeKeys
+pub mod ShapeNumbers
+pub mod KeptArrays
