@@ -5,7 +5,6 @@ pub mod Objects
 pub mod Builders
 pub mod Inverse
 pub mod Appended
-pub mod Counted
 pub mod Tested
 pub mod Unclassed
 pub mod Same

@@ -13,7 +13,7 @@ use crate::link::Sendable;
 use crate::string::is_text;
 use mvm_base::{Kind, Word};
 use mvm_builtin::{Native, native_at};
-use mvm_heap::{Heap, ItemKind, ObjectKind, words_needed};
+use mvm_heap::{Heap, ItemKind, ObjectKind};
 use mvm_history::MOST_THREADS;
 
 fn is_object(sort: ObjectKind) -> bool
@@ -41,20 +41,11 @@ fn is_sent(kind: Sendable, sort: ObjectKind) -> bool
     }
 }
 
-/// Whether there is an object of this number. The objects before it are counted by their words, since a heap does not
-/// tell how many objects it has.
+/// Whether there is an object of this number.
 fn is_there(heap: &Heap, object: u32) -> bool
     ensures { result ≡ is_there heap.now.state.objects object }
 {
-    let all = u64::from(heap.used());
-    let mut counted = 0u64;
-    for place in 0..object {
-        if counted == all {
-            return false;
-        }
-        counted += words_needed(heap.kind_of(place), heap.length(place));
-    }
-    counted < all
+    object < heap.count()
 }
 
 fn is_text_at(heap: &Heap, object: u32) -> bool
