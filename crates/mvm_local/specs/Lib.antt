@@ -1,0 +1,5 @@
+pub mod Rows
+pub mod Values
+pub mod Body
+pub mod Groups
+pub mod Attempts
