@@ -1,1 +1,4 @@
 pub mod Framing
+pub mod CodeBytes
+pub mod Shapes
+pub mod Decodings

@@ -6,7 +6,8 @@ use Rattle.mvm_insn.specs.declared.insn.At.{At}
 use Rattle.mvm_insn.specs.declared.insn.Insn.{Insn}
 use Rattle.mvm_insn.specs.declared.insn.Insn.TheVariants as of
 use Rattle.mvm_local.specs.declared.action.Action.{Action}
-use Rattle.mvm_local.specs.declared.action.Action.TheVariants.{Operate, Load, LoadFrom, Store, StoreTo, Branch, Beyond as Further}
+use Rattle.mvm_local.specs.declared.action.Action.TheVariants.{Operate, Load, LoadFrom, Store, StoreTo, Branch, LongGoto, Beyond as Further}
+use Rattle.mvm_local.specs.declared.action.Test.TheVariants.{Always}
 use Rattle.mvm_local.specs.declared.beyond.Beyond.{Beyond}
 use Rattle.mvm_local.specs.declared.beyond.Beyond.TheVariants.{Plain, Pool, Interface, NewArray, Multi}
 use Rattle.mvm_local.specs.declared.fault.Fault.{Fault}
@@ -36,6 +37,7 @@ with_local _ n next b = Err Verify
 -- an instruction that names a place in the code
 unfoldable pub jump : Action → ℤ → ℕ → Body → Attempted
 jump (Branch test) target next b = branch test target next b
+jump LongGoto target next b = branch Always target next b
 jump _ target next b = Err Verify
 
 -- an instruction, and the place behind it

@@ -21,7 +21,7 @@ pub enum Condition {
 /// When a branch is taken (JVM Specification 6.5).
 #[derive(Clone, Copy, Debug, PartialEq, Eq)]
 pub enum Test {
-    /// `goto`, `goto_w`: always.
+    /// `goto`: always.
     Always,
     /// `ifeq` to `ifle`: an int against 0.
     Zero(Condition),
@@ -85,8 +85,10 @@ pub enum Action {
     StoreTo(Kind, u8),
     /// `iinc`: a number is added to the int in a local variable.
     Increment,
-    /// `ifeq` to `goto`, `ifnull`, `ifnonnull`, `goto_w`: a branch.
+    /// `ifeq` to `goto`, `ifnull`, `ifnonnull`: a branch, if the test holds.
     Branch(Test),
+    /// `goto_w`: a branch.
+    LongGoto,
     /// `tableswitch`, `lookupswitch`: a branch by the int on top.
     Switch,
     /// `wide`: what the opcode behind it does.

@@ -207,7 +207,7 @@ pub static ACTIONS: [Action; 202] = [
     Action::Beyond, // 0xc5 multianewarray
     Action::Branch(Test::Null), // 0xc6 ifnull
     Action::Branch(Test::NonNull), // 0xc7 ifnonnull
-    Action::Branch(Test::Always), // 0xc8 goto_w
+    Action::LongGoto, // 0xc8 goto_w
     Action::Absent, // 0xc9 jsr_w
 ];
 

@@ -1,3 +1,5 @@
+ghost use Rattle.std.specs.Prelude.{◌≡◌, Some};
+
 /// An instruction that reaches beyond its frame: to an object, a class, a method or a caller (JVM Specification 6.5).
 #[derive(Clone, Copy, Debug, PartialEq, Eq)]
 pub enum Beyond {
@@ -20,4 +22,12 @@ pub struct BeyondAt {
     pub insn: Beyond,
     /// Where the next instruction's opcode stands, if the code does not end there.
     pub next: u32,
+}
+
+/// An instruction that reaches beyond its frame.
+#[inline]
+pub(crate) fn further(insn: Beyond, next: u32) -> Option<BeyondAt>
+    ensures { result ≡ Some (record { insn = insn; next = next }) }
+{
+    Some(BeyondAt { insn, next })
 }

@@ -93,17 +93,17 @@ pub(crate) fn store(
 /// The sum in 32 bits (JVM Specification 2.3.1).
 #[tactic(auto, using(std::proofs::lemmas::Int::wrapping_add_is))]
 #[inline]
-fn sum(value: i32, by: i16) -> i32
+fn sum(value: i32, by: i32) -> i32
     ensures { result ≡ reduced w32 (value +ℤ by) }
 {
-    value.wrapping_add(i32::from(by))
+    value.wrapping_add(by)
 }
 
 #[tactic(auto, unfolding(crate::specs::Groups::increment))]
 pub(crate) fn increment(
     stack: &mut Stack,
     local: u16,
-    by: i16,
+    by: i32,
     next: u32,
 ) -> Result<Option<BeyondAt>, Fault>
     requires { IsSome stack.old.rest.below.key }
