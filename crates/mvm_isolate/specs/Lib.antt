@@ -1,0 +1,10 @@
+pub mod Look
+pub mod Types
+pub mod Isolate
+pub mod Instances
+pub mod Faults
+pub mod Members
+pub mod Values
+pub mod Initialise
+pub mod Natives
+pub mod Supers

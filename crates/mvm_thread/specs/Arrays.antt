@@ -1,0 +1,190 @@
+-- Arrays (JVM Specification 6.5: newarray, anewarray, multianewarray, arraylength, and the loads and stores of items).
+use Rattle.std.specs.Prelude.{ℕ, zero, suc, ◌+◌, ◌-◌, ℤ, pos, negsuc, List, [], ◌∷◌, length, Bool, true, false, ◌==◌, nat_lt, if◌then◌else◌, Option, Some, None, Result, Ok, Err}
+use Rattle.mvm_base.specs.Answers.{◌>>=◌}
+use Rattle.mvm_base.specs.declared.descriptor.Base.{Base}
+use Rattle.mvm_base.specs.declared.descriptor.Base.TheVariants as base
+use Rattle.mvm_base.specs.declared.descriptor.FieldShape.{FieldShape}
+use Rattle.mvm_base.specs.declared.value.Kind.{Kind}
+use Rattle.mvm_base.specs.declared.value.Kind.TheVariants as kind
+use Rattle.mvm_base.specs.declared.value.Word.{Word}
+use Rattle.mvm_base.specs.declared.value.Word.TheVariants.{Int, Ref, Null}
+use Rattle.mvm_heap.specs.Heap.{object_at, number_at}
+use Rattle.mvm_heap.specs.Objects.{Object}
+use Rattle.mvm_heap.specs.Sorts.{bits_of, item_of}
+use Rattle.mvm_heap.specs.declared.kind.ItemKind.{ItemKind}
+use Rattle.mvm_heap.specs.declared.kind.ItemKind.TheVariants as item
+use Rattle.mvm_heap.specs.declared.kind.ObjectKind.{ObjectKind}
+use Rattle.mvm_heap.specs.declared.kind.ObjectKind.TheVariants as sort
+use Rattle.mvm_native.specs.declared.out.Thrown.TheVariants.{VerifyError, ArrayIndexOutOfBoundsException, ArrayStoreException, NegativeArraySizeException}
+use Rattle.mvm_isolate.specs.Isolate.{Isolate, stopped, type_at, new_array, with_number}
+use Rattle.mvm_isolate.specs.Instances.{is_instance}
+use Rattle.mvm_isolate.specs.Members.{or_verify}
+use Rattle.mvm_isolate.specs.Types.{ReferenceType, of_class, of_array}
+use Rattle.mvm_isolate.specs.Values.{kind_of_items}
+use Rattle.mvm_isolate.specs.declared.stop.Stop.{Stop}
+use Rattle.mvm_thread.specs.Entries.{type_entry}
+use Rattle.mvm_thread.specs.Fields.{not_null}
+use Rattle.mvm_thread.specs.Frames.{Frame, pushed, popped}
+use Rattle.mvm_thread.specs.Going.{Context, Point, Went, going_on, pushing, in_isolate, in_frame}
+
+-- ---- ints
+
+abbrev pub int_of : Word → Result ℤ Stop
+int_of (Int n) = Ok n
+int_of _ = stopped VerifyError
+
+unfoldable pub popped_int : Frame → Result (ℤ × Frame) Stop
+popped_int f = popped kind.Int f >>= λ x. int_of x.0 >>= λ n. Ok (n, x.1)
+
+-- ---- items
+
+-- the kind of an array's items
+abbrev pub items_in : ObjectKind → Result ItemKind Stop
+items_in (sort.Array kind) = Ok kind
+items_in _ = stopped VerifyError
+
+-- an index of an array of this length
+abbrev pub index_in : ℤ → ℕ → Result ℕ Stop
+index_in (pos index) count = if nat_lt index count then Ok index else stopped ArrayIndexOutOfBoundsException
+index_in (negsuc index) count = stopped ArrayIndexOutOfBoundsException
+
+-- An instruction for items of the one kind serves arrays of the other: that for bytes serves booleans too.
+abbrev pub serves : ItemKind → ItemKind → Bool
+serves item.Byte item.Byte = true
+serves item.Byte item.Boolean = true
+serves item.Char item.Char = true
+serves item.Short item.Short = true
+serves item.Int item.Int = true
+serves item.Long item.Long = true
+serves item.Ref item.Ref = true
+serves _ _ = false
+
+-- an item: its array, its place there, and what the array holds
+pub record Item : Type 0 where
+  pub array : ℕ
+  pub place : ℕ
+  pub kind : ItemKind
+
+-- an item of an array: null first, then no array, then the index, then an array of other items
+unfoldable pub item_of_array : ItemKind → Word → ℤ → List Object → Result Item Stop
+item_of_array wanted array index os =
+    not_null array >>= λ object.
+    items_in (object_at os object).sort >>= λ kind.
+    index_in index (length (object_at os object).contents) >>= λ place.
+    (if serves wanted kind then Ok (record { array = object; place = place; kind = kind }) else stopped VerifyError)
+
+-- iaload, laload, aaload, baload, caload, saload
+unfoldable pub load_item : Context → ItemKind → ℕ → Point → Result Went Stop
+load_item c wanted next p =
+    popped_int p.frame >>= λ index.
+    popped kind.Ref index.1 >>= λ array.
+    item_of_array wanted array.0 index.0 p.isolate.heap.objects >>= λ found.
+    pushing c next (item_of found.kind (number_at p.isolate.heap.objects found.array found.place)) (in_frame array.1 p)
+
+-- what the items of an array of this shape are, where they are references
+abbrev pub element_of_base : Base → Option ReferenceType
+element_of_base (base.Object name) = Some (of_class name)
+element_of_base _ = None
+
+abbrev pub element_of : Option ReferenceType → Option ReferenceType
+element_of (Some (of_array shape)) = if shape.dims == 1 then element_of_base shape.base else Some (of_array (record shape { dims = shape.dims - 1 }))
+element_of _ = None
+
+abbrev pub is_item_of : Context → Isolate → Option ReferenceType → ℕ → Bool
+is_item_of c s (Some type) object = is_instance c.look type s object
+is_item_of c s None object = false
+
+-- a reference may be an item of an array only if it is null or its object is an instance of the type of the items
+abbrev pub may_hold : Context → Isolate → ℕ → Word → Result (Unit {0}) Stop
+may_hold c s array (Ref object) = if is_item_of c s (element_of (type_at s array)) object then Ok tt else stopped ArrayStoreException
+may_hold c s array _ = Ok tt
+
+-- iastore, lastore, aastore, bastore, castore, sastore: of a small number the low bits are kept, of a boolean the lowest
+unfoldable pub store_item : Context → ItemKind → ℕ → Point → Result Went Stop
+store_item c wanted next p =
+    popped (kind_of_items wanted) p.frame >>= λ value.
+    popped_int value.1 >>= λ index.
+    popped kind.Ref index.1 >>= λ array.
+    item_of_array wanted array.0 index.0 p.isolate.heap.objects >>= λ found.
+    may_hold c p.isolate found.array value.0 >>= λ may.
+    Ok (going_on c next array.1 (in_isolate (with_number found.array found.place (bits_of value.0) p.isolate) p))
+
+-- arraylength
+unfoldable pub array_length : Context → ℕ → Point → Result Went Stop
+array_length c next p =
+    popped kind.Ref p.frame >>= λ array.
+    not_null array.0 >>= λ object.
+    items_in (object_at p.isolate.heap.objects object).sort >>= λ kind.
+    pushing c next (Int (pos (length (object_at p.isolate.heap.objects object).contents))) (in_frame array.1 p)
+
+-- ---- new arrays
+
+abbrev pub count_of : ℤ → Result ℕ Stop
+count_of (pos count) = Ok count
+count_of (negsuc count) = stopped NegativeArraySizeException
+
+-- a new array of one dimension stands on the operands in the place of its length
+abbrev pub array_made : Context → FieldShape → ℕ → Point → Result Went Stop
+array_made c shape next p =
+    popped_int p.frame >>= λ n.
+    count_of n.0 >>= λ count.
+    new_array shape count p.isolate >>= λ x. pushing c next (Ref x.0) (record p { isolate = x.1; frame = n.1 })
+
+-- the codes of newarray (table 6.5.newarray-A)
+abbrev pub base_of_code : ℕ → Option Base
+base_of_code code =
+    if code == 4 then Some base.Boolean else (
+    if code == 5 then Some base.Char else (
+    if code == 8 then Some base.Byte else (
+    if code == 9 then Some base.Short else (
+    if code == 10 then Some base.Int else (
+    if code == 11 then Some base.Long else None)))))
+
+-- newarray
+unfoldable pub make_numbers : Context → ℕ → ℕ → Point → Result Went Stop
+make_numbers c code next p = or_verify (base_of_code code) >>= λ base. array_made c (record { dims = 1; base = base }) next p
+
+-- an array of which each item is of this type
+abbrev pub array_of : ReferenceType → FieldShape
+array_of (of_class name) = record { dims = 1; base = base.Object name }
+array_of (of_array shape) = record shape { dims = shape.dims + 1 }
+
+-- anewarray
+unfoldable pub make_references : Context → ℕ → ℕ → Point → Result Went Stop
+make_references c index next p = type_entry c index p >>= λ type. array_made c (array_of type) next p
+
+-- ---- arrays of arrays
+
+abbrev pub a_shape : ReferenceType → Result FieldShape Stop
+a_shape (of_array shape) = Ok shape
+a_shape (of_class name) = stopped VerifyError
+
+-- the lengths of so many dimensions, the first of them lowest on the operands
+abbrev pub popped_lengths : ℕ → List ℤ → Frame → Result (List ℤ × Frame) Stop
+popped_lengths zero lengths f = Ok (lengths, f)
+popped_lengths (suc n) lengths f = popped_int f >>= λ x. popped_lengths n (x.0 ∷ lengths) x.1
+
+abbrev pub counts_of : List ℤ → Result (List ℕ) Stop
+counts_of [] = Ok []
+counts_of (n ∷ ns) = count_of n >>= λ count. counts_of ns >>= λ counts. Ok (count ∷ counts)
+
+-- so many items from a place on, each made anew
+abbrev pub items_made : (Isolate → Result (ℕ × Isolate) Stop) → ℕ → ℕ → ℕ → Isolate → Result Isolate Stop
+items_made make array place zero s = Ok s
+items_made make array place (suc n) s = make s >>= λ x. items_made make array (place + 1) n (with_number array place (bits_of (Ref x.0)) x.1)
+
+-- an array of these lengths, first itself and then its items in order, each by this rule
+unfoldable pub arrays_made : FieldShape → List ℕ → Isolate → Result (ℕ × Isolate) Stop
+arrays_made shape [] s = stopped VerifyError
+arrays_made shape (count ∷ []) s = new_array shape count s
+arrays_made shape (count ∷ next ∷ counts) s =
+    new_array shape count s >>= λ x.
+    items_made (arrays_made (record shape { dims = shape.dims - 1 }) (next ∷ counts)) x.0 0 count x.1 >>= λ made. Ok (x.0, made)
+
+-- multianewarray
+unfoldable pub make_arrays : Context → ℕ → ℕ → ℕ → Point → Result Went Stop
+make_arrays c index dims next p =
+    type_entry c index p >>= a_shape >>= λ shape.
+    popped_lengths dims [] p.frame >>= λ lengths.
+    counts_of lengths.0 >>= λ counts.
+    arrays_made shape counts p.isolate >>= λ x. pushing c next (Ref x.0) (record p { isolate = x.1; frame = lengths.1 })

@@ -1,0 +1,71 @@
+-- One attempt of one thread, with what it throws (JVM Specification 2.10, 2.11).
+use Rattle.std.specs.Prelude.{ℕ, zero, suc, List, [], ◌∷◌, Option, Some, None, Result, Ok, Err}
+use Rattle.mvm_base.specs.Answers.{◌>>=◌}
+use Rattle.mvm_native.specs.declared.out.Thrown.{Thrown}
+use Rattle.mvm_native.specs.declared.out.Thrown.TheVariants.{OutOfMemoryError}
+use Rattle.mvm_isolate.specs.Isolate.{Isolate}
+use Rattle.mvm_isolate.specs.declared.stop.Stop.{Stop}
+use Rattle.mvm_isolate.specs.declared.stop.Stop.TheVariants.{Throw}
+use Rattle.mvm_thread.specs.Frames.{Runs, method, starting, initialising, Frame}
+use Rattle.mvm_thread.specs.Going.{Doing, ready, entering, waiting, initing, joining, sending, receiving, asking, ended, Context, Point, Went, After, does, starts, notifies, acts, throws, ends_uncaught, exits, limited, going_on, stays, in_isolate}
+use Rattle.mvm_thread.specs.Instructions.{instruction}
+use Rattle.mvm_thread.specs.Monitors.{monitor_taken}
+use Rattle.mvm_thread.specs.Returns.{next_of}
+use Rattle.mvm_thread.specs.Starting.{start, initialise}
+use Rattle.mvm_thread.specs.Throwing.{Unwound, throw, throwing, or_words_missing}
+
+-- ---- what is attempted
+
+abbrev pub for_frame : Context → Runs → Point → Result Went Stop
+for_frame c starting p = start c p
+for_frame c (initialising class) p = initialise c class p
+for_frame c (method class name desc) p = instruction c p
+
+-- what the thread waited for at a call has come about: it goes on behind the call
+abbrev pub behind_call : Context → Point → Result Went Stop
+behind_call c p = next_of c p.frame >>= λ next. Ok (going_on c next p.frame p)
+
+-- A thread that waited for a monitor or for a class makes its attempt anew. One that waited on an object takes the monitor again, with the count
+-- that it gave up.
+unfoldable pub attempted : Context → Doing → Point → Result Went Stop
+attempted c ready p = for_frame c p.frame.runs p
+attempted c (entering object zero) p = for_frame c p.frame.runs p
+attempted c (entering object (suc n)) p = behind_call c (in_isolate (monitor_taken c.thread object (suc n) p.isolate) p)
+attempted c (initing class) p = for_frame c p.frame.runs p
+attempted c (joining thread) p = behind_call c p
+attempted c doing p = Ok (stays c doing p)
+
+-- ---- with what is thrown
+
+abbrev pub after_unwinding : List Frame → ℕ → After
+after_unwinding [] object = ends_uncaught object
+after_unwinding (f ∷ fs) object = does ready
+
+-- the thread goes on at a handler, or ends by what nothing caught
+abbrev pub after_throw : Context → Result Unwound Stop → Result Went Stop
+after_throw c (Ok x) = Ok (record { isolate = x.isolate; frames = x.frames; object = c.object; after = after_unwinding x.frames x.object })
+after_throw c (Err missing) = Err missing
+
+-- a thread without frames has ended
+abbrev pub ended_or : Doing → List Frame → After
+ended_or ready [] = does ended
+ended_or doing fs = does doing
+
+abbrev pub with_after : After → Went → Went
+with_after after w = record w { after = after }
+
+-- what an attempt comes to; what it throws is thrown from the state before it, and so is object 0 where words are missing
+abbrev pub settled_by : Context → Isolate → List Frame → Went → After → Result Went Stop
+settled_by c s fs w (does doing) = Ok (with_after (ended_or doing w.frames) w)
+settled_by c s fs w (throws thrown) =
+    after_throw c (or_words_missing (throwing c.look c.thread (Throw thrown) w.isolate w.frames) (throwing c.look c.thread (Throw OutOfMemoryError) s fs))
+settled_by c s fs w after = Ok w
+
+abbrev pub settled : Context → Isolate → List Frame → Result Went Stop → Result Went Stop
+settled c s fs (Ok w) = settled_by c s fs w w.after
+settled c s fs (Err why) = after_throw c (throw c.look c.thread why s fs)
+
+-- one attempt of a thread that does this, in an isolate, with these frames
+unfoldable pub attempt : Context → Doing → Isolate → List Frame → Result Went Stop
+attempt c doing s [] = Ok (record { isolate = s; frames = []; object = c.object; after = does ended })
+attempt c doing s (f ∷ fs) = settled c s (f ∷ fs) (attempted c doing (record { isolate = s; frame = f; callers = fs }))
