@@ -1,6 +1,6 @@
 -- What a step leaves as it was.
 use Rattle.std.proofs.Common.{◌≡◌, refl}
-use Rattle.std.specs.Prelude.{ℕ, List, [], ◌∷◌, Bool, true, false, ◌==◌, Option, Some, None, Result, Ok, Err, slice_get}
+use Rattle.std.specs.Prelude.{ℕ, List, [], ◌∷◌, ◌++◌, Bool, true, false, ◌==◌, Option, Some, None, Result, Ok, Err, slice_get}
 use Rattle.mvm_isolate.specs.Look.{Look}
 use Rattle.mvm_isolate.specs.declared.stop.Stop.{Stop}
 use Rattle.mvm_monitor.specs.Waits.{longest}
@@ -26,11 +26,11 @@ wake_keeps object (Some thread) s = record { bytes = refl; last = refl }
 wake_keeps object None s = record { bytes = refl; last = refl }
 
 notified_keeps : (object : ℕ) (s : State) → Keeps s (notified object s)
-  unfolding notified
+unfolding notified
 notified_keeps object s = wake_keeps object (longest object s.isolate.waits.waiters) s
 
 all_notified_keeps : (object : ℕ) (s : State) → Keeps s (all_notified object s)
-  unfolding all_notified
+unfolding all_notified
 all_notified_keeps object s = record { bytes = refl; last = refl }
 
 by_keeps : (all : Bool) (object : ℕ) (s : State) → Keeps s (notified_by all object s)
@@ -41,14 +41,17 @@ by_keeps true object s = all_notified_keeps object s
 of_changed : (s t u : State) → t.message_bytes ≡ s.message_bytes → t.last ≡ s.last → Keeps t u → Keeps s u
 of_changed s t u b l k = record { bytes = rw (k.bytes, b) refl; last = rw (k.last, l) refl }
 
+abbrev died : ℕ → ℕ → Went → State → State
+died number object w s = record (after_attempt number ended w s) { uncaught = s.uncaught ++ uncaught_of number object w.isolate ∷ [] }
+
 followed_keeps : (number : ℕ) (w : Went) (s : State) (after : After) → Keeps s (followed number w s after)
-  unfolding followed
+unfolding followed
 followed_keeps number w s (does doing) = of_changed s (after_attempt number doing w s) _ refl refl (over_keeps (after_attempt number doing w s))
 followed_keeps number w s (starts object) = record { bytes = refl; last = refl }
 followed_keeps number w s (notifies object all) = of_changed s (after_attempt number ready w s) _ refl refl (by_keeps all object (after_attempt number ready w s))
 followed_keeps number w s (acts act doing) = record { bytes = refl; last = refl }
 followed_keeps number w s (throws thrown) = record { bytes = refl; last = refl }
-followed_keeps number w s (ends_uncaught object) = of_changed s _ _ refl refl (over_keeps _)
+followed_keeps number w s (ends_uncaught object) = of_changed s (died number object w s) _ refl refl (over_keeps (died number object w s))
 followed_keeps number w s (exits status) = record { bytes = refl; last = refl }
 followed_keeps number w s (limited kind) = record { bytes = refl; last = refl }
 
@@ -62,7 +65,7 @@ attempt_keeps look number s (Some thread) =
 attempt_keeps look number s None = record { bytes = refl; last = refl }
 
 step_by : (look : Look) (s : State) (number : ℕ) (over : Bool) → (s.steps == s.isolate.launch.limits.steps) ≡ over → Keeps s (step_with look s number)
-  unfolding step_with
+unfolding step_with
 step_by look s number true e = record { bytes = rw e refl; last = rw e refl }
 step_by look s number false e = rw e (attempt_keeps look number s (slice_get s.threads number))
 
