@@ -172,3 +172,20 @@ new_back (Err fault) classes class name old new b e s o =
     ap (λ (t : Contents). all_off (classes ++ class ∷ []) t.shelves) e
     ∙ all_off_last classes class old.shelves
     ∙ ap (all_off classes) (off_none class name old.shelves o (no_row old class name o s))
+
+-- ---- one class put on its shelf
+
+-- what every table keeps is kept, whether the class was put there or not
+pub shelved_after : (r : Result (Unit {0}) OutOfMemory) (old new : List (Rows Lineage)) (set : ℕ) (name : List ℕ) (class : Lineage) → OnOk r (PutsOn old set name class new) → OnErr r (new ≡ old)
+    → (files : List (List File)) → AreShelved files old → class_in files set name ≡ Ok class → AreShelved files new
+shelved_after (Ok u) old new set name class p e files a c = put_shelved old new set name class p files a c
+shelved_after (Err fault) old new set name class p e files a c = subst (λ (shelves : List (Rows Lineage)). AreShelved files shelves) (sym e) a
+
+-- the class of a name, told by other words for the files, the set and the class
+pub class_moved : (f g : List (List File)) (s t : ℕ) (name : List ℕ) (k l : Lineage) → f ≡ g → s ≡ t → k ≡ l → class_in g t name ≡ Ok l → class_in f s name ≡ Ok k
+class_moved f g s t name k l ef es ek h =
+    ap (λ (x : List (List File)). class_in x s name) ef ∙ ap (λ (n : ℕ). class_in g n name) es ∙ h ∙ sym (ap ok_class ek)
+
+pub stands_put : (table : Contents) (class : Lineage) (name : List ℕ) (set : ℕ) (k : Lineage) (old : List (Rows Lineage)) → own_name class.file ≡ Some name → set ≡ class.set → PutsOn old set name k table.shelves → stands table class ≡ true
+stands_put table class name set k old o e p =
+    stands_so table class name o ∙ ap (λ (n : ℕ). is_some (row name (shelf_of n table.shelves))) (sym e) ∙ put_there old table.shelves set name k p
