@@ -111,8 +111,8 @@ without_code m = if has_flag flag.ABSTRACT m.flags then AbstractMethodError else
 abbrev pub framed : Context → Callee → Code → Option ℕ → Point → Result Went Stop
 framed c callee code lock p =
     if_room p.isolate.launch.limits
-      (called_frame (method callee.class callee.name callee.desc) lock code.max_locals code.max_stack callee.slots p.frame.body.operands.slots)
-      (without callee.slots p.frame ∷ p.callers) >>= λ fs.
+    (called_frame (method callee.class callee.name callee.desc) lock code.max_locals code.max_stack callee.slots p.frame.body.operands.slots)
+    (without callee.slots p.frame ∷ p.callers) >>= λ fs.
     Ok (record { isolate = p.isolate; frames = fs; object = c.object; after = does ready })
 
 -- the object whose monitor a synchronized method enters: the receiver, or the class object (2.11.10)

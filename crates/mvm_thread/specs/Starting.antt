@@ -151,7 +151,7 @@ initialiser_of file = member_at file.methods (method_at (codes "<clinit>") (code
 abbrev pub initialiser_framed : Context → List ℕ → Member → Option Code → Point → Result Went Stop
 initialiser_framed c class m (Some code) p =
     if_room p.isolate.launch.limits (called_frame (method class (codes "<clinit>") (codes "()V")) None code.max_locals code.max_stack 0 [])
-      (at_place LAST p.frame ∷ p.callers) >>= λ fs.
+    (at_place LAST p.frame ∷ p.callers) >>= λ fs.
     Ok (record { isolate = p.isolate; frames = fs; object = c.object; after = does ready })
 initialiser_framed c class m None p = stopped (without_code m)
 

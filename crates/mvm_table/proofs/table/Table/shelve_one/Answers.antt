@@ -13,11 +13,12 @@ invariant_of-self-in-Some c =
     let o : own_name c.args.class.now.file ≡ Some c.in-Some.name.now = let a = c.in-Some.ensures in let b = c.file.ensures in let d = c.get.ensures in cc in
     let s : c.set.result ≡ c.args.class.now.set = let a = c.set.ensures in let b = c.get-in-Some.ensures in cc in
     let k : c.in_ok-share-in-Some.field-0 ≡ c.args.class.now = c.in_ok-share-in-Some.ensures in
-    let l = loaded_so c.args.self.now.files c.args.class.now c.in-Some.name.now c.requires o in
-    (c.self.invariant.0,
-    shelved_after c.put_on.result c.self.inside.shelves.items c.put_on.new.shelves.items c.set.result c.in-Some.name.now c.in_ok-share-in-Some.field-0 c.put_on.ensures.ok c.put_on.ensures.err files c.self.invariant.1
-      (class_moved files c.args.self.now.files c.set.result c.args.class.now.set c.in-Some.name.now c.in_ok-share-in-Some.field-0 c.args.class.now same s k l),
-    c.put_on.ensures.count ∙ c.self.invariant.2)
+    let l = loaded_so c.args.self.now.files c.args.class.now c.in-Some.name.now c.requires o in (
+      c.self.invariant.0,
+      shelved_after c.put_on.result c.self.inside.shelves.items c.put_on.new.shelves.items c.set.result c.in-Some.name.now c.in_ok-share-in-Some.field-0 c.put_on.ensures.ok c.put_on.ensures.err files c.self.invariant.1
+          (class_moved files c.args.self.now.files c.set.result c.args.class.now.set c.in-Some.name.now c.in_ok-share-in-Some.field-0 c.args.class.now same s k l),
+      c.put_on.ensures.count ∙ c.self.invariant.2,
+    )
 
 pub returns-in_ok-share-in-Some-clause-shelved : goal.returns-in_ok-share-in-Some-clause-shelved
 returns-in_ok-share-in-Some-clause-shelved c =
