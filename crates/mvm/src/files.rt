@@ -1,8 +1,6 @@
 // Files of a real folder, of which no clause says what it holds, and of stores over memory.
 use mvm_base::{Line, List};
-use mvm_outside::{
-    FileRow, FolderStore, MemoryStore, NeverSource, NeverStore, Store, StoreFault, read_all,
-};
+use mvm_outside::{FileRow, FolderStore, MemoryStore, Store, StoreFault};
 use std::alloc::{AllocError, Global};
 use std::fs;
 use std::test::Fail;
@@ -61,12 +59,7 @@ fn one_file(alloc: Global) -> Result<List<FileRow>, AllocError> {
 
 #[test]
 fn files_of_memory(rt: HostRuntime) -> Result<(), Fail> {
-    let alloc = rt.alloc();
-    let mut store = MemoryStore::new(one_file(alloc)?, List::new(alloc));
-    assert_eq!(rt; length_of(&mut store, alloc, "A.class"), Ok(Some(3)));
-    let mut store = NeverStore::new(one_file(alloc)?);
-    assert_eq!(rt; length_of(&mut store, alloc, "A.class"), Ok(Some(3)));
-    let mut source = NeverSource::new(List::from_slice(alloc, &[1, 2, 3])?);
-    assert!(rt; read_all(alloc, &mut source, 3).is_ok());
+    let mut store = MemoryStore::new(one_file(rt.alloc())?, List::new(rt.alloc()));
+    assert_eq!(rt; length_of(&mut store, rt.alloc(), "A.class"), Ok(Some(3)));
     Ok(())
 }

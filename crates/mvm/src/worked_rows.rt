@@ -45,7 +45,7 @@ const ROWS: [(
     u8,
     Option<Refusal>,
     &str,
-); 9] = [
+); 7] = [
     (0, 0xca, None, ALL, None, 0, None, REPORT),
     (148, 0x01, None, ALL, None, 1, None, VERIFY_ERROR),
     (
@@ -56,26 +56,6 @@ const ROWS: [(
         None,
         4,
         Some(Refusal::Class(ClassFault::Unsupported(0))),
-        "",
-    ),
-    (
-        3,
-        0xbf,
-        None,
-        ALL,
-        None,
-        4,
-        Some(Refusal::Class(ClassFault::Magic)),
-        "",
-    ),
-    (
-        92,
-        0x01,
-        None,
-        ALL,
-        None,
-        4,
-        Some(Refusal::Class(ClassFault::Pool(9))),
         "",
     ),
     // all bytes are read, and then a read fails
