@@ -24,6 +24,10 @@ pub count : (ws ds : List ℕ) → length (objects_in ws ds) ≡ length ds
 unfolding objects_in
 count ws ds = length-map ds (object_in ws)
 
+pub monitor_count : (ws ds : List ℕ) → length (monitors_in ws ds) ≡ length ds
+unfolding monitors_in
+monitor_count ws ds = length-map ds (monitor_in ws)
+
 pub is_there : (ws ds : List ℕ) (n place : ℕ) → place < length (object_at (objects_in ws ds) n).contents → n < length ds
 unfolding objects_in
 is_there ws ds n place h = laid.is_there ws ds n place h

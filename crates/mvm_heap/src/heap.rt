@@ -1,5 +1,5 @@
 ghost use Rattle.std.specs.Prelude.{◌≡◌, ◌≢◌, ◌+◌, ◌<◌, ◌≤◌, ◌^◌, ◌++◌, [], ◌∷◌, length, slice_get, slice_set, IfOk, IfSome, OnOk, Some, Err};
-ghost use Rattle.mvm_heap.specs.Heap.{intern, item_at, noted, number_at, object_at, placed, text, words, written, zeros, Allocates, HasRoom, IsArray, Takes};
+ghost use Rattle.mvm_heap.specs.Heap.{intern, interned, item_at, noted, number_at, object_at, placed, text, words, written, zeros, Allocates, HasRoom, IsArray, Takes};
 ghost use Rattle.mvm_heap.specs.Objects.{Held, Spare, State};
 ghost use Rattle.mvm_heap.specs.Sorts.{bits_of, word_of, words_needed};
 ghost use Rattle.mvm_heap.specs.declared.kind.AllocFault.TheVariants.{OutOfMemory as Refused};
@@ -66,7 +66,9 @@ impl Heap {
 
     /// How many objects there are. They are numbered from 0.
     pub fn count(&self) -> u32
-        ensures { result ≡ length self.now.state.objects }
+        ensures is { result ≡ length self.now.state.objects }
+        // Each has a monitor.
+        ensures monitors { result ≡ length self.now.state.monitors }
     {
         self.store.count()
     }
@@ -283,6 +285,14 @@ impl Heap {
         };
         write_units(&mut self.store, number, units);
         Ok(number)
+    }
+
+    /// The interned text of these units, if there is one.
+    pub fn interned(&self, units: &[u16]) -> Option<u32>
+        ensures is { result ≡ interned self.now.state.objects self.now.state.texts units.now }
+        ensures there { IfSome result (λ n. n < length self.now.state.objects) }
+    {
+        find(&self.store, &self.entries, &self.heads, units)
     }
 
     /// The one interned text of these units. It can want memory where no text of these units is interned yet, and

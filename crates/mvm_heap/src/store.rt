@@ -53,7 +53,8 @@ impl Store {
 
     /// How many objects there are.
     pub fn count(&self) -> u32
-        ensures { result ≡ length self.now.objects }
+        ensures is { result ≡ length self.now.objects }
+        ensures monitors { result ≡ length self.now.monitors }
     {
         self.directory.len() as u32
     }
