@@ -1,5 +1,5 @@
 -- The initialisation of a class, up to its frame (JVM Specification 5.5).
-use Rattle.std.specs.Prelude.{ℕ, List, [], ◌∷◌, ◌++◌, Bool, not, ◌&&◌, ◌||◌, if◌then◌else◌, Option, Some, None, Result, Ok, Err}
+use Rattle.std.specs.Prelude.{ℕ, List, [], ◌∷◌, ◌++◌, Bool, true, false, if◌then◌else◌, Option, Some, None, Result, Ok, Err}
 use Rattle.std.specs.List.{filter, list_any}
 use Rattle.mvm_base.specs.Answers.{◌>>=◌}
 use Rattle.mvm_base.specs.declared.value.Word.{Word}
@@ -17,7 +17,7 @@ use Rattle.mvm_mirror.specs.declared.state.Begin.{Begin}
 use Rattle.mvm_mirror.specs.declared.state.Begin.TheVariants as begin
 use Rattle.mvm_mirror.specs.declared.state.InitState.{InitState}
 use Rattle.mvm_mirror.specs.declared.state.InitState.TheVariants.{InProgress, Initialised, Erroneous}
-use Rattle.mvm_native.specs.declared.out.Thrown.TheVariants.{NoClassDefFoundError}
+use Rattle.mvm_native.specs.declared.out.Thrown.TheVariants.{StackOverflowError}
 use Rattle.mvm_isolate.specs.declared.stop.Stop.{Stop}
 use Rattle.mvm_isolate.specs.Faults.{looked_up}
 use Rattle.mvm_isolate.specs.Isolate.{Isolate, stopped, interned_text}
@@ -78,13 +78,19 @@ constants_set class file (field ∷ fields) s =
 unfoldable pub run : ℕ → List ℕ → Parts → Isolate → Result Isolate Stop
 run thread name file s = constants_set name file file.fields (in_state name (InProgress thread) s)
 
-abbrev pub begun_by : ℕ → List ℕ → Parts → Isolate → Begin → Result (Begin × Isolate) Stop
-begun_by thread name file s begin.Run = run thread name file s >>= λ began. Ok (begin.Run, began)
-begun_by thread name file s other = Ok (other, s)
+-- the frame of the initialisation comes after the constants: where their words are missing, that is thrown
+abbrev pub if_room : Bool → Isolate → Result (Begin × Isolate) Stop
+if_room true s = Ok (begin.Run, s)
+if_room false s = stopped StackOverflowError
 
--- what a thread does that wants the class of a name initialised: it goes on, waits, throws, or begins to initialise it (steps 1 to 6)
-unfoldable pub begins : Look → ℕ → List ℕ → Isolate → Result (Begin × Isolate) Stop
-begins look thread name s = looked_up (look.class name) >>= λ class. begun_by thread name class.file s (begun thread (s.classes.states name))
+abbrev pub begun_by : Bool → ℕ → List ℕ → Parts → Isolate → Begin → Result (Begin × Isolate) Stop
+begun_by room thread name file s begin.Run = run thread name file s >>= if_room room
+begun_by room thread name file s other = Ok (other, s)
+
+-- What a thread does that wants the class of a name initialised: it goes on, waits, throws, or begins to initialise it (steps 1 to 6). To begin it
+-- needs room for one frame more.
+unfoldable pub begins : Look → Bool → ℕ → List ℕ → Isolate → Result (Begin × Isolate) Stop
+begins look room thread name s = looked_up (look.class name) >>= λ class. begun_by room thread name class.file s (begun thread (s.classes.states name))
 
 -- a class of which the initialisation was begun was linked before; another is linked first, and a fault leaves its state as it is
 abbrev pub linked_first : Look → List ℕ → Begin → Result (Unit {0}) Stop
@@ -92,5 +98,5 @@ linked_first look name begin.Run = looked_up (look.linked name)
 linked_first look name _ = Ok tt
 
 -- the same where the class may not have been linked: where an instruction or a start wants it initialised
-unfoldable pub links_and_begins : Look → ℕ → List ℕ → Isolate → Result (Begin × Isolate) Stop
-links_and_begins look thread name s = linked_first look name (begun thread (s.classes.states name)) >>= λ linked. begins look thread name s
+unfoldable pub links_and_begins : Look → Bool → ℕ → List ℕ → Isolate → Result (Begin × Isolate) Stop
+links_and_begins look room thread name s = linked_first look name (begun thread (s.classes.states name)) >>= λ linked. begins look room thread name s

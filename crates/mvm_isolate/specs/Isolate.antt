@@ -1,6 +1,6 @@
--- What the threads of an isolate share, by names (JVM Specification 2.5.3 to 2.5.5): its heap, what it keeps of its classes, its output, the
--- threads that wait on objects, which links are closed, and what it was launched with.
-use Rattle.std.specs.Prelude.{ℕ, Bool, List, [], ◌∷◌, ◌++◌, length, map, drop, Option, Some, None, Result, Ok, Err, slice_get}
+-- What the threads of an isolate share and change, by names (JVM Specification 2.5.3 to 2.5.5): its heap, what it keeps of its classes, its
+-- output, and the threads that wait on objects.
+use Rattle.std.specs.Prelude.{ℕ, List, [], ◌∷◌, ◌++◌, length, map, drop, Option, Some, None, Result, Ok, Err, slice_get}
 use Rattle.mvm_base.specs.Answers.{◌>>=◌}
 use Rattle.mvm_base.specs.declared.descriptor.FieldShape.{FieldShape}
 use Rattle.mvm_base.specs.declared.value.Word.{Word}
@@ -31,10 +31,6 @@ pub record Isolate : Type 0 where
   pub arrays : FieldShape → Option ℕ
   pub output : List ℕ
   pub waits : Waits
-  -- of each link of the launch, by its number: whether it is closed on this side
-  pub closed : List Bool
-  -- its quantum is looked at by no rule of a step
-  pub launch : Launch
 
 -- an attempt throws an object of this class
 abbrev pub stopped : {A : Type 0} → Thrown → Result A Stop
@@ -82,9 +78,9 @@ interned_text units s = interned_in s (intern units s.heap)
 
 -- ---- native methods
 
--- an isolate, which of its threads calls, and how its links stand on this side
-abbrev pub machine_in : ℕ → List LinkUse → Isolate → Machine
-machine_in thread links s = record { heap = s.heap; output = s.output; waits = s.waits; launch = s.launch; thread = thread; links = links }
+-- an isolate, what it was launched with, which of its threads calls, and how its links stand on this side
+abbrev pub machine_in : Launch → ℕ → List LinkUse → Isolate → Machine
+machine_in launch thread links s = record { heap = s.heap; output = s.output; waits = s.waits; launch = launch; thread = thread; links = links }
 
 -- the isolate as a native method leaves it
 abbrev pub after_native : Machine → Isolate → Isolate

@@ -8,3 +8,6 @@ pub mod Values
 pub mod Initialise
 pub mod Natives
 pub mod Supers
+pub mod Monitors
+pub mod Thrown
+pub mod Receivers

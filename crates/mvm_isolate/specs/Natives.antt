@@ -8,6 +8,7 @@ use Rattle.mvm_base.specs.declared.value.Word.{Word}
 use Rattle.mvm_base.specs.declared.value.Word.TheVariants.{Ref}
 use Rattle.mvm_builtin.specs.declared.natives.Native.{Native}
 use Rattle.mvm_heap.specs.Heap.{object_at}
+use Rattle.mvm_history.specs.declared.launch.Launch.{Launch}
 use Rattle.mvm_native.specs.Calls.{called}
 use Rattle.mvm_native.specs.Needs.{fits}
 use Rattle.mvm_native.specs.Strings.{is_text}
@@ -48,8 +49,8 @@ all_suit look s (type ∷ types) [] = false
 all_suit look s (type ∷ types) (word ∷ words) = value_suits look s type word && all_suit look s types words
 
 -- What a native method answers a thread, and what it leaves. Arguments that are not what it takes them for are a VerifyError.
-unfoldable pub native_called : ℕ → List LinkUse → Native → List Word → Isolate → Result (Out × Isolate) Stop
-native_called thread links native args s =
-    if fits native args (machine_in thread links s)
-    then Ok ((called native args (machine_in thread links s)).0, after_native (called native args (machine_in thread links s)).1 s)
+unfoldable pub native_called : Launch → ℕ → List LinkUse → Native → List Word → Isolate → Result (Out × Isolate) Stop
+native_called launch thread links native args s =
+    if fits native args (machine_in launch thread links s)
+    then Ok ((called native args (machine_in launch thread links s)).0, after_native (called native args (machine_in launch thread links s)).1 s)
     else stopped VerifyError

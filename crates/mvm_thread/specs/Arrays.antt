@@ -16,9 +16,9 @@ use Rattle.mvm_heap.specs.declared.kind.ItemKind.TheVariants as item
 use Rattle.mvm_heap.specs.declared.kind.ObjectKind.{ObjectKind}
 use Rattle.mvm_heap.specs.declared.kind.ObjectKind.TheVariants as sort
 use Rattle.mvm_native.specs.declared.out.Thrown.TheVariants.{VerifyError, ArrayIndexOutOfBoundsException, ArrayStoreException, NegativeArraySizeException}
-use Rattle.mvm_isolate.specs.Isolate.{Isolate, stopped, type_at, new_array, with_number}
-use Rattle.mvm_isolate.specs.Instances.{is_instance}
+use Rattle.mvm_isolate.specs.Isolate.{Isolate, stopped, new_array, with_number}
 use Rattle.mvm_isolate.specs.Members.{or_verify}
+use Rattle.mvm_isolate.specs.Receivers.{is_element}
 use Rattle.mvm_isolate.specs.Types.{ReferenceType, of_class, of_array}
 use Rattle.mvm_isolate.specs.Values.{kind_of_items}
 use Rattle.mvm_isolate.specs.declared.stop.Stop.{Stop}
@@ -81,22 +81,9 @@ load_item c wanted next p =
     item_of_array wanted array.0 index.0 p.isolate.heap.objects >>= λ found.
     pushing c next (item_of found.kind (number_at p.isolate.heap.objects found.array found.place)) (in_frame array.1 p)
 
--- what the items of an array of this shape are, where they are references
-abbrev pub element_of_base : Base → Option ReferenceType
-element_of_base (base.Object name) = Some (of_class name)
-element_of_base _ = None
-
-abbrev pub element_of : Option ReferenceType → Option ReferenceType
-element_of (Some (of_array shape)) = if shape.dims == 1 then element_of_base shape.base else Some (of_array (record shape { dims = shape.dims - 1 }))
-element_of _ = None
-
-abbrev pub is_item_of : Context → Isolate → Option ReferenceType → ℕ → Bool
-is_item_of c s (Some type) object = is_instance c.look type s object
-is_item_of c s None object = false
-
 -- a reference may be an item of an array only if it is null or its object is an instance of the type of the items
 abbrev pub may_hold : Context → Isolate → ℕ → Word → Result (Unit {0}) Stop
-may_hold c s array (Ref object) = if is_item_of c s (element_of (type_at s array)) object then Ok tt else stopped ArrayStoreException
+may_hold c s array (Ref object) = if is_element c.look s array object then Ok tt else stopped ArrayStoreException
 may_hold c s array _ = Ok tt
 
 -- iastore, lastore, aastore, bastore, castore, sastore: of a small number the low bits are kept, of a boolean the lowest

@@ -25,9 +25,11 @@ use Rattle.mvm_table.specs.declared.resolved.Resolved.TheVariants as resolved
 use Rattle.mvm_isolate.specs.Faults.{looked_up, selected_or}
 use Rattle.mvm_isolate.specs.Isolate.{Isolate, stopped, type_at, class_object}
 use Rattle.mvm_isolate.specs.Look.{is_sub}
-use Rattle.mvm_isolate.specs.Members.{MemberName, or_verify, method_named, method_in}
+use Rattle.mvm_isolate.specs.Members.{or_verify, method_in}
+use Rattle.mvm_member.specs.Members.{MemberName, method_named}
 use Rattle.mvm_isolate.specs.Instances.{is_instance}
-use Rattle.mvm_isolate.specs.Types.{ReferenceType, of_class, of_array, OBJECT}
+use Rattle.mvm_isolate.specs.Receivers.{class_of_type}
+use Rattle.mvm_isolate.specs.Types.{of_class}
 use Rattle.mvm_isolate.specs.declared.stop.Stop.{Stop}
 use Rattle.mvm_thread.specs.Arguments.{shape_of, kinds_of, widths, arguments, receiver_in}
 use Rattle.mvm_thread.specs.Entries.{entry_at, once_initialised}
@@ -110,7 +112,7 @@ without_code m = if has_flag flag.ABSTRACT m.flags then AbstractMethodError else
 -- the frame of a method with code stands on the caller, with its arguments; the caller's pc stays at the call
 abbrev pub framed : Context → Callee → Code → Option ℕ → Point → Result Went Stop
 framed c callee code lock p =
-    if_room p.isolate.launch.limits
+    if_room c.launch.limits
     (called_frame (method callee.class callee.name callee.desc) lock code.max_locals code.max_stack callee.slots p.frame.body.operands.slots)
     (without callee.slots p.frame ∷ p.callers) >>= λ fs.
     Ok (record { isolate = p.isolate; frames = fs; object = c.object; after = does ready })
@@ -154,12 +156,6 @@ invoke_static c index next p =
 -- the receiver is an instance of the class that declares the resolved method, or that is thrown
 abbrev pub on_instance : Context → Thrown → Target → ℕ → Isolate → Result (Unit {0}) Stop
 on_instance c thrown t object s = if is_instance c.look (of_class t.1.class) s object then Ok tt else stopped thrown
-
--- the class in which a method is selected for an object; an array has the methods of Object (JLS 10.7)
-abbrev pub class_of_type : Option ReferenceType → Result (List ℕ) Stop
-class_of_type (Some (of_class name)) = Ok name
-class_of_type (Some (of_array shape)) = Ok OBJECT
-class_of_type None = stopped VerifyError
 
 abbrev pub receiver_class : Context → ℕ → Isolate → Result Lineage Stop
 receiver_class c object s = class_of_type (type_at s object) >>= λ name. looked_up (c.look.class name)

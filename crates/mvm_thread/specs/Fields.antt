@@ -9,12 +9,14 @@ use Rattle.mvm_heap.specs.Heap.{object_at, number_at}
 use Rattle.mvm_heap.specs.Objects.{Object}
 use Rattle.mvm_heap.specs.Sorts.{bits_of, word_of}
 use Rattle.mvm_native.specs.declared.out.Thrown.TheVariants.{VerifyError, NullPointerException}
+use Rattle.mvm_isolate.specs.Thrown.{STREAM}
 use Rattle.mvm_table.specs.declared.resolved.Resolved.{Resolved}
 use Rattle.mvm_table.specs.declared.resolved.Resolved.TheVariants as resolved
 use Rattle.mvm_isolate.specs.Faults.{looked_up}
 use Rattle.mvm_isolate.specs.Initialise.{as_reference, static_set}
 use Rattle.mvm_isolate.specs.Isolate.{Isolate, stopped, new_object, interned_text, class_object, with_number}
-use Rattle.mvm_isolate.specs.Members.{MemberName, or_verify, is_declared, place_of}
+use Rattle.mvm_isolate.specs.Members.{or_verify, is_declared}
+use Rattle.mvm_member.specs.Members.{MemberName, place_of}
 use Rattle.mvm_isolate.specs.Instances.{is_instance}
 use Rattle.mvm_isolate.specs.Types.{ReferenceType, of_class, of_array}
 use Rattle.mvm_isolate.specs.Values.{kind_by, narrowed}
@@ -51,7 +53,7 @@ is_null _ = false
 
 -- a new stream, which from then on is the field's value
 abbrev pub new_stream : MemberName → Isolate → Result (Word × Isolate) Stop
-new_stream m s = new_object (codes "java/io/PrintStream") 0 s >>= λ x. Ok (Ref x.0, static_set m.class m.name m.desc (Ref x.0) x.1)
+new_stream m s = new_object STREAM 0 s >>= λ x. Ok (Ref x.0, static_set m.class m.name m.desc (Ref x.0) x.1)
 
 -- The value of a static field. That of System.out is made where it is wanted for the first time.
 unfoldable pub static_value : MemberName → Isolate → Result (Word × Isolate) Stop

@@ -3,6 +3,7 @@ use Rattle.std.specs.Prelude.{ℕ, ℤ, List, [], ◌∷◌, Bool, Option, Some,
 use Rattle.mvm_base.specs.Answers.{◌>>=◌}
 use Rattle.mvm_base.specs.declared.value.Word.{Word}
 use Rattle.mvm_history.specs.declared.end.LimitKind.{LimitKind}
+use Rattle.mvm_history.specs.declared.launch.Launch.{Launch}
 use Rattle.mvm_native.specs.declared.env.LinkUse.{LinkUse}
 use Rattle.mvm_native.specs.declared.out.Act.{Act}
 use Rattle.mvm_native.specs.declared.out.Thrown.{Thrown}
@@ -29,9 +30,11 @@ pub data Doing : Type 0 where
   asking : Doing
   ended : Doing
 
--- what an attempt looks up, and what it is told of the threads of its isolate
+-- what an attempt looks up, and what it is told of its isolate
 pub record Context : Type 0 where
   pub look : Look
+  -- what the isolate was launched with; its quantum is looked at by no rule of a step
+  pub launch : Launch
   -- the number of the thread
   pub thread : ℕ
   -- how many threads there are

@@ -9,7 +9,6 @@ pub mod Arguments
 pub mod NativeCalls
 pub mod Calls
 pub mod Returns
-pub mod Thrown
 pub mod Throwing
 pub mod Starting
 pub mod Rows

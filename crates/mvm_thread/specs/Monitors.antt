@@ -1,5 +1,5 @@
 -- Monitors (JVM Specification 2.11.10, 6.5: monitorenter, monitorexit; Java Language Specification, SE 8, 17.1).
-use Rattle.std.specs.Prelude.{ℕ, ◌+◌, ◌^◌, List, Bool, true, false, ◌==◌, nat_lt, if◌then◌else◌, Option, Some, None, Result, Ok, Err, slice_get, slice_set}
+use Rattle.std.specs.Prelude.{ℕ, ◌+◌, ◌^◌, List, Bool, true, false, ◌==◌, nat_lt, if◌then◌else◌, Option, Some, None, Result, Ok, Err}
 use Rattle.mvm_base.specs.Answers.{◌>>=◌}
 use Rattle.mvm_base.specs.declared.value.Kind.TheVariants as kind
 use Rattle.mvm_monitor.specs.Monitors.{entered, exited}
@@ -7,6 +7,7 @@ use Rattle.mvm_native.specs.declared.out.Thrown.TheVariants.{IllegalMonitorState
 use Rattle.mvm_region.specs.declared.monitor.Monitor.{Monitor}
 use Rattle.mvm_isolate.specs.Isolate.{Isolate, stopped}
 use Rattle.mvm_isolate.specs.Members.{or_verify}
+use Rattle.mvm_isolate.specs.Monitors.{monitor_at, with_monitor}
 use Rattle.mvm_isolate.specs.declared.stop.Stop.{Stop}
 use Rattle.mvm_thread.specs.Fields.{not_null}
 use Rattle.mvm_thread.specs.Frames.{Frame, popped}
@@ -19,12 +20,6 @@ is_owner thread None = false
 abbrev pub is_free : Option ℕ → Bool
 is_free (Some owner) = false
 is_free None = true
-
-abbrev pub monitor_at : Isolate → ℕ → Option Monitor
-monitor_at s object = slice_get s.heap.monitors object
-
-abbrev pub with_monitor : ℕ → Monitor → Isolate → Isolate
-with_monitor object monitor s = record s { heap = record s.heap { monitors = slice_set s.heap.monitors object monitor } }
 
 -- a thread owns the monitor of an object
 abbrev pub is_owned : ℕ → Option Monitor → Bool

@@ -17,7 +17,9 @@ use Rattle.mvm_isolate.specs.Types.{ReferenceType, of_class}
 use Rattle.mvm_isolate.specs.declared.stop.Stop.{Stop}
 use Rattle.mvm_thread.specs.Frames.{Frame, pushed, without, at_place}
 use Rattle.mvm_thread.specs.Going.{Context, Point, Went, After, does, starts, notifies, acts, exits, limited, Doing, ready, waiting, joining, sending, receiving, asking, going_on, stays, pushing, in_isolate, in_frame}
-use Rattle.mvm_thread.specs.Monitors.{monitor_at, monitor_freed, count_in}
+use Rattle.mvm_thread.specs.Monitors.{monitor_freed, count_in}
+use Rattle.mvm_isolate.specs.Thrown.{THREAD}
+use Rattle.mvm_isolate.specs.Monitors.{monitor_at}
 
 -- ---- what a method answers
 
@@ -42,7 +44,7 @@ with_thread_number object thread s = with_number object 1 (thread + 1) s
 -- Thread.start: another thread, with the next number, unless there may be no more
 abbrev pub starting_thread : Context → ℕ → ℕ → Point → Went
 starting_thread c next object p =
-    if nat_lt c.threads p.isolate.launch.limits.threads
+    if nat_lt c.threads c.launch.limits.threads
     then record { isolate = with_thread_number object c.threads p.isolate; frames = at_place next p.frame ∷ p.callers; object = c.object; after = starts object }
     else leaving c (limited Threads) p
 
@@ -58,7 +60,7 @@ waiting_on c object p = stays c (waiting object (count_in (monitor_at p.isolate 
 abbrev pub current_object : Context → ℕ → Option ℕ → Point → Result Went Stop
 current_object c next (Some object) p = pushing c next (Ref object) p
 current_object c next None p =
-    new_object (codes "java/lang/Thread") 2 p.isolate >>= λ x.
+    new_object THREAD 2 p.isolate >>= λ x.
     pushed (Ref x.0) p.frame >>= λ f.
     Ok (record { isolate = with_thread_number x.0 c.thread x.1; frames = at_place next f ∷ p.callers; object = Some x.0; after = does ready })
 
@@ -88,5 +90,5 @@ parameter_types false class shape = of_class class ∷ map type_of_shape shape.p
 -- Its arguments suit those types, and are what the method takes them for; or the code is wrong.
 unfoldable pub native_call : Context → Native → List ReferenceType → List Word → ℕ → ℕ → Point → Result Went Stop
 native_call c native types words slots next p =
-    (if all_suit c.look p.isolate types words then native_called c.thread c.links native words p.isolate else stopped VerifyError) >>= λ x.
+    (if all_suit c.look p.isolate types words then native_called c.launch c.thread c.links native words p.isolate else stopped VerifyError) >>= λ x.
     answered c next (record p { isolate = x.1; frame = without slots p.frame }) x.0

@@ -14,6 +14,7 @@ use Rattle.mvm_layout.specs.declared.parts.Member.{Member}
 use Rattle.mvm_layout.specs.declared.parts.Parts.{Parts}
 use Rattle.mvm_mirror.specs.declared.state.Begin.{Begin}
 use Rattle.mvm_native.specs.declared.out.Thrown.TheVariants.{VerifyError, NoSuchMethodError}
+use Rattle.mvm_isolate.specs.Thrown.{THREAD}
 use Rattle.mvm_select.specs.Told.{method_found, virtual_selection}
 use Rattle.mvm_set.specs.Members.{method_at}
 use Rattle.mvm_set.specs.Names.{superclass}
@@ -24,12 +25,13 @@ use Rattle.mvm_set.specs.declared.found.MethodAt.{MethodAt}
 use Rattle.mvm_isolate.specs.Faults.{looked_up}
 use Rattle.mvm_isolate.specs.Initialise.{begins, finished}
 use Rattle.mvm_isolate.specs.Isolate.{Isolate, stopped, class_object, new_array, new_text, with_number}
-use Rattle.mvm_isolate.specs.Members.{MemberName, or_verify, member_at, method_named, method_in}
+use Rattle.mvm_isolate.specs.Members.{or_verify, method_in}
+use Rattle.mvm_member.specs.Members.{MemberName, member_at, method_named}
 use Rattle.mvm_isolate.specs.Supers.{supers_of}
 use Rattle.mvm_isolate.specs.Types.{of_class, STRING}
 use Rattle.mvm_isolate.specs.declared.stop.Stop.{Stop}
 use Rattle.mvm_thread.specs.Calls.{without_code, receiver_class, selected_in}
-use Rattle.mvm_thread.specs.Entries.{once_initialised, by_begin}
+use Rattle.mvm_thread.specs.Entries.{once_initialised, by_begin, may_begin}
 use Rattle.mvm_thread.specs.Frames.{Runs, method, Frame, called_frame, at_place, if_room, LAST}
 use Rattle.mvm_thread.specs.Going.{Context, Point, Went, does, throws, ready, in_isolate}
 use Rattle.mvm_thread.specs.Monitors.{once_entered}
@@ -46,7 +48,7 @@ first_frame runs lock code object = record {
 
 abbrev pub started : Context → Runs → Option ℕ → Code → ℕ → Point → Result Went Stop
 started c runs lock code object p =
-    if_room p.isolate.launch.limits (first_frame runs lock code object) p.callers >>= λ fs.
+    if_room c.launch.limits (first_frame runs lock code object) p.callers >>= λ fs.
     Ok (record { isolate = p.isolate; frames = fs; object = c.object; after = does ready })
 
 -- ---- main (5.2)
@@ -78,9 +80,9 @@ runs_main m = method m.class m.name m.desc
 
 -- a main without code is thrown for in the place of its frame, once its arguments were made
 abbrev pub main_started : Context → MemberName → Member → Option ℕ → Option Code → Point → Result Went Stop
-main_started c m main lock (Some code) p = arguments_made p.isolate.launch.args p.isolate >>= λ x. started c (runs_main m) lock code x.0 (in_isolate x.1 p)
+main_started c m main lock (Some code) p = arguments_made c.launch.args p.isolate >>= λ x. started c (runs_main m) lock code x.0 (in_isolate x.1 p)
 main_started c m main lock None p =
-    arguments_made p.isolate.launch.args p.isolate >>= λ x.
+    arguments_made c.launch.args p.isolate >>= λ x.
     Ok (record { isolate = x.1; frames = p.callers; object = c.object; after = throws (without_code main) })
 
 abbrev pub main_locked : Context → MemberName → Member → Code → Point → ℕ × Isolate → Result Went Stop
@@ -96,17 +98,14 @@ main_entered c m main p None = main_started c m main None None p
 
 abbrev pub main_called : Context → Point → Result Went Stop
 main_called c p =
-    looked_up (c.look.class p.isolate.launch.main) >>= main_of >>= λ m.
+    looked_up (c.look.class c.launch.main) >>= main_of >>= λ m.
     method_in c.look m.class m.name m.desc >>= λ main. main_entered c m main p main.code
 
 -- the first thread starts: the main class is initialised, and then its main is called
 unfoldable pub start_main : Context → Point → Result Went Stop
-start_main c p = once_initialised c p.isolate.launch.main p (main_called c)
+start_main c p = once_initialised c c.launch.main p (main_called c)
 
 -- ---- run (Java SE 8 API, java.lang.Thread)
-
-abbrev pub THREAD : List ℕ
-THREAD = codes "java/lang/Thread"
 
 abbrev pub run_resolved : Lineage → Result MethodAt Stop
 run_resolved class = or_no_method (method_found (codes "run") (codes "()V") class) >>= λ found. Ok (record { class = class; found = found })
@@ -139,7 +138,7 @@ start c p = if c.thread == 0 then start_main c p else start_run c p
 -- the supers of a class are initialised in their order, and then the attempt goes on
 unfoldable pub supers_first : Context → List (List ℕ) → (Point → Result Went Stop) → Point → Result Went Stop
 supers_first c [] go p = go p
-supers_first c (name ∷ names) go p = begins c.look c.thread name p.isolate >>= by_begin c name p (supers_first c names go)
+supers_first c (name ∷ names) go p = begins c.look (may_begin c p) c.thread name p.isolate >>= by_begin c name p (supers_first c names go)
 
 -- the class is initialised, and its frame is left
 abbrev pub initialised : Context → List ℕ → Point → Went
@@ -150,7 +149,7 @@ initialiser_of file = member_at file.methods (method_at (codes "<clinit>") (code
 
 abbrev pub initialiser_framed : Context → List ℕ → Member → Option Code → Point → Result Went Stop
 initialiser_framed c class m (Some code) p =
-    if_room p.isolate.launch.limits (called_frame (method class (codes "<clinit>") (codes "()V")) None code.max_locals code.max_stack 0 [])
+    if_room c.launch.limits (called_frame (method class (codes "<clinit>") (codes "()V")) None code.max_locals code.max_stack 0 [])
     (at_place LAST p.frame ∷ p.callers) >>= λ fs.
     Ok (record { isolate = p.isolate; frames = fs; object = c.object; after = does ready })
 initialiser_framed c class m None p = stopped (without_code m)

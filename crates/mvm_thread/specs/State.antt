@@ -9,7 +9,7 @@ use Rattle.mvm_mirror.specs.Statics.{zero_of}
 use Rattle.mvm_native.specs.declared.env.LinkUse.{LinkUse}
 use Rattle.mvm_native.specs.declared.out.Thrown.TheVariants.{OutOfMemoryError, StackOverflowError}
 use Rattle.mvm_isolate.specs.Types.{of_class}
-use Rattle.mvm_thread.specs.Thrown.{name_of_thrown}
+use Rattle.mvm_isolate.specs.Thrown.{name_of_thrown}
 use Rattle.mvm_history.specs.declared.end.End.{End}
 use Rattle.mvm_mirror.specs.declared.state.InitState.{InitState}
 use Rattle.mvm_mirror.specs.declared.state.InitState.TheVariants.{NotBegun, InProgress, Initialised, Erroneous}
@@ -18,7 +18,8 @@ use Rattle.mvm_region.specs.declared.monitor.Monitor.{Monitor}
 use Rattle.mvm_isolate.specs.Isolate.{Isolate}
 use Rattle.mvm_thread.specs.Frames.{Frame, starting, bare_frame}
 use Rattle.mvm_thread.specs.Going.{Doing, ready, entering, waiting, initing, joining, sending, receiving, asking, ended}
-use Rattle.mvm_thread.specs.Monitors.{monitor_at, is_free}
+use Rattle.mvm_thread.specs.Monitors.{is_free}
+use Rattle.mvm_isolate.specs.Monitors.{monitor_at}
 
 pub record Thread : Type 0 where
   pub doing : Doing
@@ -35,6 +36,9 @@ pub record Uncaught : Type 0 where
 
 pub record State : Type 0 where
   pub isolate : Isolate
+  pub launch : Launch
+  -- of each link of the launch, by its number: whether it is closed on this side
+  pub closed : List Bool
   pub threads : List Thread
   -- the thread of the last turn
   pub last : Option ℕ
@@ -82,6 +86,13 @@ can_thread number s None = false
 unfoldable pub can_step : State → ℕ → Bool
 can_step s thread = can_thread thread s (slice_get s.threads thread)
 
+-- it waits for the world outside its isolate
+abbrev pub is_outside : Doing → Bool
+is_outside (sending link) = true
+is_outside (receiving link) = true
+is_outside asking = true
+is_outside doing = false
+
 -- ---- links
 
 abbrev pub sends_on : ℕ → Doing → Bool
@@ -122,9 +133,9 @@ opened launch = record {
     arrays = λ shape. None;
     output = [];
     waits = record { threads = launch.limits.threads; waiters = [] };
-    closed = map (λ link. false) launch.links;
-    launch = launch;
   };
+  launch = launch;
+  closed = map (λ link. false) launch.links;
   threads = record { doing = ready; object = None; frames = bare_frame starting 0 ∷ [] } ∷ [];
   last = None;
   steps = 0;

@@ -131,10 +131,11 @@ counted s = record s { steps = s.steps + 1 }
 abbrev pub context_of : Look → ℕ → Thread → State → Context
 context_of look number thread s = record {
   look = look;
+  launch = s.launch;
   thread = number;
   threads = length s.threads;
   has_ended = λ other. is_ended (slice_get s.threads other);
-  links = uses_from 0 s.threads s.isolate.closed;
+  links = uses_from 0 s.threads s.closed;
   object = thread.object;
 }
 
@@ -150,8 +151,8 @@ attempt_of look number s None = s
 -- One attempt of the thread of a number. Where as many were made as there may be, the isolate ends, and the attempt is not counted.
 unfoldable pub step_with : Look → State → ℕ → State
 step_with look s number =
-    if s.steps == s.isolate.launch.limits.steps then ended_by (Limit Steps) s else attempt_of look number s (slice_get s.threads number)
+    if s.steps == s.launch.limits.steps then ended_by (Limit Steps) s else attempt_of look number s (slice_get s.threads number)
 
 -- the same over the values that the definitions give, on the files of the set of its launch
 abbrev pub step : List (List File) → State → ℕ → State
-step table s number = step_with (look_in table s.isolate.launch.set) s number
+step table s number = step_with (look_in table s.launch.set) s number

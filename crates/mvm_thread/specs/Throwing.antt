@@ -14,13 +14,14 @@ use Rattle.mvm_isolate.specs.Initialise.{failed}
 use Rattle.mvm_isolate.specs.Isolate.{Isolate, type_at, new_object, with_number}
 use Rattle.mvm_isolate.specs.Look.{Look, extends}
 use Rattle.mvm_isolate.specs.Members.{method_in}
-use Rattle.mvm_isolate.specs.Types.{ReferenceType, of_class, of_array}
+use Rattle.mvm_isolate.specs.Receivers.{is_thrown_as}
+use Rattle.mvm_isolate.specs.Types.{ReferenceType}
 use Rattle.mvm_isolate.specs.declared.stop.Stop.{Stop}
 use Rattle.mvm_isolate.specs.declared.stop.Stop.TheVariants as stop
 use Rattle.mvm_local.specs.Body.{Body}
 use Rattle.mvm_thread.specs.Frames.{Runs, method, starting, initialising, Frame, LAST}
 use Rattle.mvm_thread.specs.Monitors.{released}
-use Rattle.mvm_thread.specs.Thrown.{name_of_thrown}
+use Rattle.mvm_isolate.specs.Thrown.{name_of_thrown}
 
 -- ---- the object that is thrown
 
@@ -35,11 +36,6 @@ thrown_object (stop.Throw thrown) s = new_object (name_of_thrown thrown) 2 s
 thrown_object stop.OutOfMemory s = Err stop.OutOfMemory
 
 -- ---- handlers
-
--- the object is of the class of this name, or of one that has it as a superclass; an array is thrown by nobody
-abbrev pub is_thrown_as : Look → List ℕ → Option ReferenceType → Bool
-is_thrown_as look name (Some (of_class class)) = extends look class name
-is_thrown_as look name _ = false
 
 -- a row without a class catches everything (4.7.3)
 abbrev pub catches_named : Look → Option ReferenceType → Option (List ℕ) → Bool
