@@ -11,3 +11,7 @@ pub mod Supers
 pub mod Monitors
 pub mod Thrown
 pub mod Receivers
+pub mod Beginning
+pub mod Numbered
+pub mod Sound
+pub mod Allocated

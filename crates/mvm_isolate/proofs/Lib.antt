@@ -1,0 +1,11 @@
+pub mod Held
+pub mod Named
+pub mod LookUps
+pub mod Growing
+pub mod Loading
+pub mod Arraying
+pub mod Throwables
+pub mod Beginning
+pub mod Keeping
+pub mod Allocating
+pub mod Mirroring
