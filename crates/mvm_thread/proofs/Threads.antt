@@ -8,7 +8,7 @@ use Rattle.mvm_isolate.specs.declared.stop.Stop.{Stop}
 use Rattle.mvm_mirror.proofs.Changed.{get_set_other}
 use Rattle.mvm_monitor.specs.Waits.{longest}
 use Rattle.mvm_thread.specs.Attempt.{attempt}
-use Rattle.mvm_thread.specs.Frames.{bare_frame, starting}
+use Rattle.mvm_current.specs.Frames.{bare_frame, starting}
 use Rattle.mvm_thread.specs.Going.{Doing, ready, entering, waiting, initing, joining, sending, receiving, asking, ended, After, does, starts, notifies, acts, throws, ends_uncaught, exits, limited, Went}
 use Rattle.mvm_thread.specs.State.{State, Thread, is_outside}
 use Rattle.mvm_thread.specs.Step.{all_ended, unless_over, wake, wake_in, wake_on, awake, awake_on, notified, all_notified, notified_by, thread_started, after_attempt, uncaught_of, followed, counted, come_of, context_of, attempt_of, step_with}

@@ -22,19 +22,10 @@ use Rattle.mvm_isolate.specs.Receivers.{is_element}
 use Rattle.mvm_isolate.specs.Types.{ReferenceType, of_class, of_array}
 use Rattle.mvm_isolate.specs.Values.{kind_of_items}
 use Rattle.mvm_isolate.specs.declared.stop.Stop.{Stop}
-use Rattle.mvm_thread.specs.Entries.{type_entry}
-use Rattle.mvm_thread.specs.Fields.{not_null}
-use Rattle.mvm_thread.specs.Frames.{Frame, pushed, popped}
+use Rattle.mvm_current.specs.Entries.{type_entry}
+use Rattle.mvm_current.specs.Values.{not_null, popped_int}
+use Rattle.mvm_current.specs.Frames.{Frame, pushed, popped}
 use Rattle.mvm_thread.specs.Going.{Context, Point, Went, going_on, pushing, in_isolate, in_frame}
-
--- ---- ints
-
-abbrev pub int_of : Word → Result ℤ Stop
-int_of (Int n) = Ok n
-int_of _ = stopped VerifyError
-
-unfoldable pub popped_int : Frame → Result (ℤ × Frame) Stop
-popped_int f = popped kind.Int f >>= λ x. int_of x.0 >>= λ n. Ok (n, x.1)
 
 -- ---- items
 
@@ -138,7 +129,7 @@ array_of (of_array shape) = record shape { dims = shape.dims + 1 }
 
 -- anewarray
 unfoldable pub make_references : Context → ℕ → ℕ → Point → Result Went Stop
-make_references c index next p = type_entry c index p >>= λ type. array_made c (array_of type) next p
+make_references c index next p = type_entry c.look index p.frame >>= λ type. array_made c (array_of type) next p
 
 -- ---- arrays of arrays
 
@@ -171,7 +162,7 @@ arrays_made shape (count ∷ next ∷ counts) s =
 -- multianewarray
 unfoldable pub make_arrays : Context → ℕ → ℕ → ℕ → Point → Result Went Stop
 make_arrays c index dims next p =
-    type_entry c index p >>= a_shape >>= λ shape.
+    type_entry c.look index p.frame >>= a_shape >>= λ shape.
     popped_lengths dims [] p.frame >>= λ lengths.
     counts_of lengths.0 >>= λ counts.
     arrays_made shape counts p.isolate >>= λ x. pushing c next (Ref x.0) (record p { isolate = x.1; frame = lengths.1 })

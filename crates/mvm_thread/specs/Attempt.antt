@@ -6,11 +6,11 @@ use Rattle.mvm_native.specs.declared.out.Thrown.TheVariants.{OutOfMemoryError}
 use Rattle.mvm_isolate.specs.Isolate.{Isolate}
 use Rattle.mvm_isolate.specs.declared.stop.Stop.{Stop}
 use Rattle.mvm_isolate.specs.declared.stop.Stop.TheVariants.{Throw}
-use Rattle.mvm_thread.specs.Frames.{Runs, method, starting, initialising, Frame}
+use Rattle.mvm_current.specs.Frames.{Runs, method, starting, initialising, Frame}
 use Rattle.mvm_thread.specs.Going.{Doing, ready, entering, waiting, initing, joining, sending, receiving, asking, ended, Context, Point, Went, After, does, starts, notifies, acts, throws, ends_uncaught, exits, limited, going_on, stays, in_isolate}
 use Rattle.mvm_thread.specs.Instructions.{instruction}
 use Rattle.mvm_thread.specs.Monitors.{monitor_taken}
-use Rattle.mvm_thread.specs.Returns.{next_of}
+use Rattle.mvm_current.specs.Code.{next_of}
 use Rattle.mvm_thread.specs.Starting.{start, initialise}
 use Rattle.mvm_thread.specs.Throwing.{Unwound, throw, throwing, or_words_missing}
 
@@ -23,7 +23,7 @@ for_frame c (method class name desc) p = instruction c p
 
 -- what the thread waited for at a call has come about: it goes on behind the call
 abbrev pub behind_call : Context → Point → Result Went Stop
-behind_call c p = next_of c p.frame >>= λ next. Ok (going_on c next p.frame p)
+behind_call c p = next_of c.look p.frame >>= λ next. Ok (going_on c next p.frame p)
 
 -- A thread that waited for a monitor or for a class makes its attempt anew. One that waited on an object takes the monitor again, with the count
 -- that it gave up.

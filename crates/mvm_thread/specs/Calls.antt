@@ -31,9 +31,10 @@ use Rattle.mvm_isolate.specs.Instances.{is_instance}
 use Rattle.mvm_isolate.specs.Receivers.{class_of_type}
 use Rattle.mvm_isolate.specs.Types.{of_class}
 use Rattle.mvm_isolate.specs.declared.stop.Stop.{Stop}
-use Rattle.mvm_thread.specs.Arguments.{shape_of, kinds_of, widths, arguments, receiver_in}
-use Rattle.mvm_thread.specs.Entries.{entry_at, once_initialised}
-use Rattle.mvm_thread.specs.Frames.{Runs, method, starting, initialising, Frame, called_frame, without, if_room}
+use Rattle.mvm_current.specs.Arguments.{shape_of, kinds_of, widths, arguments, receiver_in}
+use Rattle.mvm_thread.specs.Entries.{once_initialised}
+use Rattle.mvm_current.specs.Entries.{entry_at}
+use Rattle.mvm_current.specs.Frames.{Runs, method, starting, initialising, Frame, called_frame, without, if_room}
 use Rattle.mvm_thread.specs.Going.{Context, Point, Went, does, ready, entering, stays, in_isolate}
 use Rattle.mvm_thread.specs.Monitors.{once_entered}
 use Rattle.mvm_thread.specs.NativeCalls.{native_call, parameter_types}
@@ -78,7 +79,7 @@ fits_call false t = if is_static t.1.flags then stopped IncompatibleClassChangeE
 -- the method that a call names, which is static or is not
 unfoldable pub call_target : Context → Bool → ℕ → Point → Result Target Stop
 call_target c static index p =
-    entry_at c index p >>= a_method >>= λ t.
+    entry_at c.look index p.frame >>= a_method >>= λ t.
     referred c index p >>= λ class. own_constructor class t >>= fits_call static
 
 -- ---- the method that is called, with its class

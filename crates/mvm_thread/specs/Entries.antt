@@ -1,4 +1,4 @@
--- What the constant pool of the class of the top frame has, resolved (JVM Specification 5.4.3), and the classes that instructions initialise (5.5).
+-- The classes that instructions initialise (JVM Specification 5.5).
 use Rattle.std.specs.Prelude.{ℕ, List, ◌∷◌, Bool, true, false, not, ◌&&◌, if◌then◌else◌, Option, Some, None, Result, Ok, Err, codes}
 use Rattle.std.specs.Str.{bytes_eq}
 use Rattle.mvm_base.specs.Answers.{◌>>=◌}
@@ -21,54 +21,8 @@ use Rattle.mvm_isolate.specs.Members.{or_verify}
 use Rattle.mvm_member.specs.Members.{MemberName, field_named}
 use Rattle.mvm_isolate.specs.Types.{ReferenceType, of_class, of_array}
 use Rattle.mvm_isolate.specs.declared.stop.Stop.{Stop}
-use Rattle.mvm_thread.specs.Frames.{Runs, method, starting, initialising, Frame, bare_frame, has_room, SUPERS}
+use Rattle.mvm_current.specs.Frames.{Runs, method, starting, initialising, Frame, bare_frame, has_room, SUPERS}
 use Rattle.mvm_thread.specs.Going.{Context, Point, Went, does, ready, initing, stays, in_isolate}
-
--- ---- entries
-
-abbrev pub entry_for : Context → ℕ → Runs → Result Resolved Stop
-entry_for c index (method class name desc) = looked_up (c.look.entry class index)
-entry_for c index _ = stopped VerifyError
-
--- the entry of an index
-unfoldable pub entry_at : Context → ℕ → Point → Result Resolved Stop
-entry_at c index p = entry_for c index p.frame.runs
-
-abbrev pub a_field : Resolved → Result MemberName Stop
-a_field (resolved.Field field) = or_verify (field_named field)
-a_field _ = stopped VerifyError
-
-abbrev pub name_of : Lineage → Result (List ℕ) Stop
-name_of class = or_verify (own_name class.file)
-
--- a class or an array class
-abbrev pub a_type : Resolved → Result ReferenceType Stop
-a_type (resolved.Class class) = name_of class >>= λ name. Ok (of_class name)
-a_type (resolved.Array shape) = Ok (of_array shape)
-a_type _ = stopped VerifyError
-
--- the type that an entry names
-unfoldable pub type_entry : Context → ℕ → Point → Result ReferenceType Stop
-type_entry c index p = entry_at c index p >>= a_type
-
-abbrev pub of_sort : Bool → MemberName → Result MemberName Stop
-of_sort true m = if is_static m.flags then Ok m else stopped IncompatibleClassChangeError
-of_sort false m = if is_static m.flags then stopped IncompatibleClassChangeError else Ok m
-
--- the field that an entry names, which is static or is not
-unfoldable pub field_entry : Context → Bool → ℕ → Point → Result MemberName Stop
-field_entry c static index p = entry_at c index p >>= a_field >>= of_sort static
-
--- ---- stores to final fields (6.5, under putfield and putstatic)
-
-abbrev pub is_method_of : List ℕ → List ℕ → Runs → Bool
-is_method_of class name (method holder called desc) = bytes_eq class holder && bytes_eq name called
-is_method_of class name _ = false
-
--- a method of this name of the field's own class may store to it, where it is final; any may where it is not
-unfoldable pub may_store : List ℕ → MemberName → Point → Result (Unit {0}) Stop
-may_store name m p =
-    if has_flag flag.FINAL m.flags && not (is_method_of m.class name p.frame.runs) then stopped IllegalAccessError else Ok tt
 
 -- ---- initialisation at an instruction (5.5)
 

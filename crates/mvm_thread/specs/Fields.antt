@@ -21,8 +21,10 @@ use Rattle.mvm_isolate.specs.Instances.{is_instance}
 use Rattle.mvm_isolate.specs.Types.{ReferenceType, of_class, of_array}
 use Rattle.mvm_isolate.specs.Values.{kind_by, narrowed}
 use Rattle.mvm_isolate.specs.declared.stop.Stop.{Stop}
-use Rattle.mvm_thread.specs.Entries.{entry_at, field_entry, name_of, may_store, once_initialised}
-use Rattle.mvm_thread.specs.Frames.{Frame, pushed, popped}
+use Rattle.mvm_thread.specs.Entries.{once_initialised}
+use Rattle.mvm_current.specs.Entries.{entry_at, field_entry, name_of, may_store}
+use Rattle.mvm_current.specs.Values.{not_null}
+use Rattle.mvm_current.specs.Frames.{Frame, pushed, popped}
 use Rattle.mvm_thread.specs.Going.{Context, Point, Went, going_on, pushing, in_isolate, in_frame}
 
 -- ---- constants
@@ -37,7 +39,7 @@ loaded_constant s _ = stopped VerifyError
 
 -- ldc, ldc_w, ldc2_w: an int, a long, an interned text, a class object
 unfoldable pub load_constant : Context → ℕ → ℕ → Point → Result Went Stop
-load_constant c index next p = entry_at c index p >>= loaded_constant p.isolate >>= λ x. pushing c next x.0 (in_isolate x.1 p)
+load_constant c index next p = entry_at c.look index p.frame >>= loaded_constant p.isolate >>= λ x. pushing c next x.0 (in_isolate x.1 p)
 
 -- ---- static fields
 
@@ -61,22 +63,16 @@ static_value m s = if is_out m && is_null (static_word m s) then new_stream m s 
 
 unfoldable pub get_static : Context → ℕ → ℕ → Point → Result Went Stop
 get_static c index next p =
-    field_entry c true index p >>= λ m.
+    field_entry c.look true index p.frame >>= λ m.
     once_initialised c m.class p (λ q. is_declared c.look m >>= λ is. static_value m q.isolate >>= λ x. pushing c next x.0 (in_isolate x.1 q))
 
 unfoldable pub put_static : Context → ℕ → ℕ → Point → Result Went Stop
 put_static c index next p =
-    field_entry c true index p >>= λ m.
-    may_store (codes "<clinit>") m p >>= λ may.
+    field_entry c.look true index p.frame >>= λ m.
+    may_store (codes "<clinit>") m p.frame >>= λ may.
     once_initialised c m.class p (λ q. is_declared c.look m >>= λ is. popped (kind_by m.desc) q.frame >>= λ x. Ok (going_on c next x.1 (in_isolate (static_set m.class m.name m.desc x.0 q.isolate) q)))
 
 -- ---- instance fields
-
--- the object that is referred to
-abbrev pub not_null : Word → Result ℕ Stop
-not_null (Ref object) = Ok object
-not_null Null = stopped NullPointerException
-not_null _ = stopped VerifyError
 
 -- an object is of this type
 abbrev pub must_be : Context → ReferenceType → ℕ → Isolate → Result (Unit {0}) Stop
@@ -95,7 +91,7 @@ field_place c m object s =
 
 unfoldable pub get_field : Context → ℕ → ℕ → Point → Result Went Stop
 get_field c index next p =
-    field_entry c false index p >>= λ m.
+    field_entry c.look false index p.frame >>= λ m.
     popped kind.Ref p.frame >>= λ x.
     not_null x.0 >>= λ object.
     field_place c m object p.isolate >>= λ place.
@@ -103,8 +99,8 @@ get_field c index next p =
 
 unfoldable pub put_field : Context → ℕ → ℕ → Point → Result Went Stop
 put_field c index next p =
-    field_entry c false index p >>= λ m.
-    may_store (codes "<init>") m p >>= λ may.
+    field_entry c.look false index p.frame >>= λ m.
+    may_store (codes "<init>") m p.frame >>= λ may.
     popped (kind_by m.desc) p.frame >>= λ x.
     popped kind.Ref x.1 >>= λ y.
     not_null y.0 >>= λ object.

@@ -10,7 +10,7 @@ use Rattle.mvm_native.specs.declared.out.Thrown.{Thrown}
 use Rattle.mvm_isolate.specs.Isolate.{Isolate, stopped}
 use Rattle.mvm_isolate.specs.Look.{Look}
 use Rattle.mvm_isolate.specs.declared.stop.Stop.{Stop}
-use Rattle.mvm_thread.specs.Frames.{Frame, pushed, at_place}
+use Rattle.mvm_current.specs.Frames.{Frame, pushed, at_place}
 
 -- what a thread does, or what it waits for; a class is told by its name
 pub data Doing : Type 0 where

@@ -18,7 +18,8 @@ use Rattle.mvm_thread.specs.Fields.{load_constant, get_static, put_static, get_f
 use Rattle.mvm_thread.specs.Going.{Context, Point, Went, does, ready}
 use Rattle.mvm_thread.specs.Monitors.{monitor_enter, monitor_exit}
 use Rattle.mvm_thread.specs.Objects.{make_object, check_cast, instance_of, throw_object}
-use Rattle.mvm_thread.specs.Returns.{code_of, return_value}
+use Rattle.mvm_thread.specs.Returns.{return_value}
+use Rattle.mvm_current.specs.Code.{code_of}
 use Rattle.mvm_thread.specs.Rows.{action_of}
 use Rattle.mvm_thread.specs.declared.action.Action.{Action}
 use Rattle.mvm_thread.specs.declared.action.Action.TheVariants as action
@@ -67,4 +68,4 @@ performed c p (Err Arithmetic) = stopped ArithmeticException
 
 -- the instruction at the pc of the top frame
 unfoldable pub instruction : Context → Point → Result Went Stop
-instruction c p = code_of c p.frame >>= λ code. performed c p (attempt code.bytes p.frame.body)
+instruction c p = code_of c.look p.frame >>= λ code. performed c p (attempt code.bytes p.frame.body)

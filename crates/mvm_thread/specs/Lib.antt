@@ -1,11 +1,9 @@
-pub mod Frames
 pub mod Going
 pub mod Entries
 pub mod Fields
 pub mod Arrays
 pub mod Objects
 pub mod Monitors
-pub mod Arguments
 pub mod NativeCalls
 pub mod Calls
 pub mod Returns

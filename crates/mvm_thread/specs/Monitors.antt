@@ -9,8 +9,8 @@ use Rattle.mvm_isolate.specs.Isolate.{Isolate, stopped}
 use Rattle.mvm_isolate.specs.Members.{or_verify}
 use Rattle.mvm_isolate.specs.Monitors.{monitor_at, with_monitor}
 use Rattle.mvm_isolate.specs.declared.stop.Stop.{Stop}
-use Rattle.mvm_thread.specs.Fields.{not_null}
-use Rattle.mvm_thread.specs.Frames.{Frame, popped}
+use Rattle.mvm_current.specs.Values.{not_null}
+use Rattle.mvm_current.specs.Frames.{Frame, popped}
 use Rattle.mvm_thread.specs.Going.{Context, Point, Went, entering, going_on, stays, in_isolate}
 
 abbrev pub is_owner : ℕ → Option ℕ → Bool

@@ -15,7 +15,7 @@ use Rattle.mvm_isolate.specs.Isolate.{Isolate, stopped, new_object, with_number}
 use Rattle.mvm_isolate.specs.Natives.{all_suit, native_called, type_of_shape}
 use Rattle.mvm_isolate.specs.Types.{ReferenceType, of_class}
 use Rattle.mvm_isolate.specs.declared.stop.Stop.{Stop}
-use Rattle.mvm_thread.specs.Frames.{Frame, pushed, without, at_place}
+use Rattle.mvm_current.specs.Frames.{Frame, pushed, without, at_place}
 use Rattle.mvm_thread.specs.Going.{Context, Point, Went, After, does, starts, notifies, acts, exits, limited, Doing, ready, waiting, joining, sending, receiving, asking, going_on, stays, pushing, in_isolate, in_frame}
 use Rattle.mvm_thread.specs.Monitors.{monitor_freed, count_in}
 use Rattle.mvm_isolate.specs.Thrown.{THREAD}

@@ -16,9 +16,11 @@ use Rattle.mvm_isolate.specs.Instances.{is_instance}
 use Rattle.mvm_isolate.specs.Types.{ReferenceType, of_class}
 use Rattle.mvm_isolate.specs.declared.stop.Stop.{Stop}
 use Rattle.mvm_isolate.specs.declared.stop.Stop.TheVariants as stop
-use Rattle.mvm_thread.specs.Entries.{entry_at, type_entry, name_of, once_initialised}
-use Rattle.mvm_thread.specs.Fields.{not_null, must_be}
-use Rattle.mvm_thread.specs.Frames.{popped}
+use Rattle.mvm_thread.specs.Entries.{once_initialised}
+use Rattle.mvm_current.specs.Entries.{entry_at, type_entry, name_of}
+use Rattle.mvm_thread.specs.Fields.{must_be}
+use Rattle.mvm_current.specs.Values.{not_null}
+use Rattle.mvm_current.specs.Frames.{popped}
 use Rattle.mvm_thread.specs.Going.{Context, Point, Went, going_on, pushing, in_isolate, in_frame}
 
 -- ---- new
@@ -33,7 +35,7 @@ of_objects class = if has_flag flag.INTERFACE class.file.flags || has_flag flag.
 
 unfoldable pub make_object : Context → ℕ → ℕ → Point → Result Went Stop
 make_object c index next p =
-    entry_at c index p >>= a_class >>= of_objects >>= λ class.
+    entry_at c.look index p.frame >>= a_class >>= of_objects >>= λ class.
     name_of class >>= λ name.
     once_initialised c name p (λ q. new_object name (instance_fields class.line) q.isolate >>= λ x. pushing c next (Ref x.0) (in_isolate x.1 q))
 
@@ -41,7 +43,7 @@ make_object c index next p =
 
 abbrev pub cast : Context → ℕ → ℕ → Point → Word → Result Went Stop
 cast c index next p (Ref object) =
-    type_entry c index p >>= λ type.
+    type_entry c.look index p.frame >>= λ type.
     (if is_instance c.look type p.isolate object then pushing c next (Ref object) p else stopped ClassCastException)
 cast c index next p Null = pushing c next Null p
 cast c index next p _ = stopped VerifyError
@@ -55,7 +57,7 @@ truth true = Int (pos 1)
 truth false = Int (pos 0)
 
 abbrev pub tested : Context → ℕ → ℕ → Point → Word → Result Went Stop
-tested c index next p (Ref object) = type_entry c index p >>= λ type. pushing c next (truth (is_instance c.look type p.isolate object)) p
+tested c index next p (Ref object) = type_entry c.look index p.frame >>= λ type. pushing c next (truth (is_instance c.look type p.isolate object)) p
 tested c index next p Null = pushing c next (truth false) p
 tested c index next p _ = stopped VerifyError
 

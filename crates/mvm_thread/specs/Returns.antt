@@ -15,28 +15,11 @@ use Rattle.mvm_native.specs.declared.out.Thrown.TheVariants.{VerifyError}
 use Rattle.mvm_isolate.specs.Isolate.{Isolate, stopped}
 use Rattle.mvm_isolate.specs.Members.{or_verify, method_in}
 use Rattle.mvm_isolate.specs.declared.stop.Stop.{Stop}
-use Rattle.mvm_thread.specs.Arguments.{shape_of, kind_of_shape}
-use Rattle.mvm_thread.specs.Frames.{Runs, method, starting, initialising, Frame, pushed, popped, at_place}
+use Rattle.mvm_current.specs.Arguments.{shape_of, kind_of_shape}
+use Rattle.mvm_current.specs.Code.{next_of}
+use Rattle.mvm_current.specs.Frames.{Runs, method, starting, initialising, Frame, pushed, popped, at_place}
 use Rattle.mvm_thread.specs.Going.{Context, Point, Went, does, ready, ended}
 use Rattle.mvm_thread.specs.Monitors.{unlocked}
-
--- ---- the code of a frame
-
-abbrev pub code_for : Context → Runs → Result Code Stop
-code_for c (method class name desc) = method_in c.look class name desc >>= λ m. or_verify m.code
-code_for c _ = stopped VerifyError
-
--- the code that a frame runs
-unfoldable pub code_of : Context → Frame → Result Code Stop
-code_of c f = code_for c f.runs
-
-abbrev pub behind : Result At InsnFault → Result ℕ Stop
-behind (Ok at) = Ok at.next
-behind (Err fault) = stopped VerifyError
-
--- the place behind the instruction at the pc of a frame
-unfoldable pub next_of : Context → Frame → Result ℕ Stop
-next_of c f = code_of c f >>= λ code. behind (insn code.bytes f.body.pc)
 
 -- ---- the result
 
@@ -66,7 +49,7 @@ with_result (Some word) f = pushed word f
 with_result None f = Ok f
 
 abbrev pub moved_on : Context → Runs → Frame → Result Frame Stop
-moved_on c (method class name desc) f = next_of c f >>= λ next. Ok (at_place next f)
+moved_on c (method class name desc) f = next_of c.look f >>= λ next. Ok (at_place next f)
 moved_on c _ f = Ok f
 
 -- a method that waits goes on behind its call, an initialisation with its stage

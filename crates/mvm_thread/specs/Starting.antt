@@ -32,7 +32,7 @@ use Rattle.mvm_isolate.specs.Types.{of_class, STRING}
 use Rattle.mvm_isolate.specs.declared.stop.Stop.{Stop}
 use Rattle.mvm_thread.specs.Calls.{without_code, receiver_class, selected_in}
 use Rattle.mvm_thread.specs.Entries.{once_initialised, by_begin, may_begin}
-use Rattle.mvm_thread.specs.Frames.{Runs, method, Frame, called_frame, at_place, if_room, LAST}
+use Rattle.mvm_current.specs.Frames.{Runs, method, Frame, called_frame, at_place, if_room, LAST}
 use Rattle.mvm_thread.specs.Going.{Context, Point, Went, does, throws, ready, in_isolate}
 use Rattle.mvm_thread.specs.Monitors.{once_entered}
 

@@ -19,7 +19,7 @@ use Rattle.mvm_isolate.specs.Look.{Look, look_in}
 use Rattle.mvm_isolate.specs.Types.{ReferenceType, of_class, of_array}
 use Rattle.mvm_isolate.specs.declared.stop.Stop.{Stop}
 use Rattle.mvm_thread.specs.Attempt.{attempt}
-use Rattle.mvm_thread.specs.Frames.{Frame, starting, bare_frame}
+use Rattle.mvm_current.specs.Frames.{Frame, starting, bare_frame}
 use Rattle.mvm_thread.specs.Going.{Doing, ready, entering, waiting, ended, Context, Went, After, does, starts, notifies, acts, throws, ends_uncaught, exits, limited}
 use Rattle.mvm_thread.specs.State.{Thread, Uncaught, State, is_ended, has_ended, uses_from}
 

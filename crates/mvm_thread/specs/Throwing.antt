@@ -19,7 +19,7 @@ use Rattle.mvm_isolate.specs.Types.{ReferenceType}
 use Rattle.mvm_isolate.specs.declared.stop.Stop.{Stop}
 use Rattle.mvm_isolate.specs.declared.stop.Stop.TheVariants as stop
 use Rattle.mvm_local.specs.Body.{Body}
-use Rattle.mvm_thread.specs.Frames.{Runs, method, starting, initialising, Frame, LAST}
+use Rattle.mvm_current.specs.Frames.{Runs, method, starting, initialising, Frame, LAST}
 use Rattle.mvm_thread.specs.Monitors.{released}
 use Rattle.mvm_isolate.specs.Thrown.{name_of_thrown}
 

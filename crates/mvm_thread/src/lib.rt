@@ -7,9 +7,7 @@
 mod action;
 mod action_rows;
 mod laws;
-mod limits;
 
 pub use action::Action;
 pub use action_rows::action_of;
 pub use laws::step_law;
-pub use limits::MOST_FRAME_WORDS;

@@ -13,7 +13,7 @@ use Rattle.mvm_isolate.specs.Isolate.{Isolate, stopped}
 use Rattle.mvm_isolate.specs.declared.stop.Stop.{Stop}
 use Rattle.mvm_local.specs.Body.{Body}
 use Rattle.mvm_native.specs.declared.out.Thrown.TheVariants.{VerifyError, StackOverflowError}
-use Rattle.mvm_thread.specs.declared.limits.TheConstants.{MOST_FRAME_WORDS}
+use Rattle.mvm_current.specs.declared.limits.TheConstants.{MOST_FRAME_WORDS}
 
 -- what a frame is for
 pub data Runs : Type 0 where

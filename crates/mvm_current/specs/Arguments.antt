@@ -1,5 +1,5 @@
 -- The arguments of a call, as they stand on the operands of the caller (JVM Specification 2.6.1, 6.5 under invokevirtual).
-use Rattle.std.specs.Prelude.{ℕ, ◌+◌, List, [], ◌∷◌, length, take, drop, reverse, map, Bool, true, false, ◌&&◌, ◌==◌, nat_le, if◌then◌else◌, Option, Some, None, Result, Ok, Err, slice_get}
+use Rattle.std.specs.Prelude.{ℕ, ◌+◌, List, [], ◌∷◌, ◌++◌, length, take, drop, reverse, map, Bool, true, false, ◌&&◌, ◌==◌, nat_le, if◌then◌else◌, Option, Some, None, Result, Ok, Err, slice_get}
 use Rattle.mvm_base.specs.Answers.{◌>>=◌}
 use Rattle.mvm_base.specs.Descriptor.{method_of}
 use Rattle.mvm_base.specs.declared.descriptor.DescFault.{DescFault}
@@ -16,7 +16,7 @@ use Rattle.mvm_isolate.specs.Isolate.{stopped}
 use Rattle.mvm_isolate.specs.Types.{items_of}
 use Rattle.mvm_isolate.specs.Values.{kind_of_items}
 use Rattle.mvm_isolate.specs.declared.stop.Stop.{Stop}
-use Rattle.mvm_thread.specs.Fields.{not_null}
+use Rattle.mvm_current.specs.Values.{not_null, width}
 
 -- ---- descriptors
 
@@ -32,16 +32,15 @@ shape_of desc = or_verify_desc (method_of desc)
 abbrev pub kind_of_shape : FieldShape → Kind
 kind_of_shape shape = if shape.dims == 0 then kind_of_items (items_of (record shape { dims = 1 })) else kind.Ref
 
+abbrev pub receiver_kinds : Bool → List Kind
+receiver_kinds true = []
+receiver_kinds false = kind.Ref ∷ []
+
 -- a receiver, if there is one, and then the parameters
 abbrev pub kinds_of : Bool → MethodShape → List Kind
-kinds_of true shape = map kind_of_shape shape.params
-kinds_of false shape = kind.Ref ∷ map kind_of_shape shape.params
+kinds_of static shape = receiver_kinds static ++ map kind_of_shape shape.params
 
 -- ---- slots
-
-abbrev pub width : Kind → ℕ
-width kind.Long = 2
-width _ = 1
 
 abbrev pub widths : List Kind → ℕ
 widths [] = 0
@@ -76,9 +75,16 @@ abbrev pub words_in : List Kind → List Slot → Result (List Word) Stop
 words_in [] slots = Ok []
 words_in (k ∷ ks) slots = with_word (head_word k slots) (words_in ks (drop (width k) slots))
 
+-- the arguments of a call take at most so many slots (4.3.3)
+abbrev pub MOST_ARGUMENT_SLOTS : ℕ
+MOST_ARGUMENT_SLOTS = 255
+
+abbrev pub are_there : List Kind → List Slot → Bool
+are_there kinds slots = nat_le (widths kinds) MOST_ARGUMENT_SLOTS && nat_le (widths kinds) (length slots)
+
 -- the arguments on top of the operands, the last of them highest
 unfoldable pub arguments : List Kind → List Slot → Result (List Word) Stop
-arguments kinds slots = if nat_le (widths kinds) (length slots) then words_in kinds (reverse (take (widths kinds) slots)) else stopped VerifyError
+arguments kinds slots = if are_there kinds slots then words_in kinds (reverse (take (widths kinds) slots)) else stopped VerifyError
 
 -- ---- the receiver
 
