@@ -46,7 +46,7 @@ placed_more o s t k e = by (nat_lt s.size (words s.objects + words_of o)) e
         let both : ◌≡◌ {A = ℕ × State} (length s.objects, record s { objects = s.objects ++ o ∷ []; monitors = s.monitors ++ free ∷ [] }) (k, t) = cc in
         sym (ap (λ (x : ℕ × State). x.1.objects) both)
 
-heads_push : (os : List Object) (o : Object) → heads_of (os ++ o ∷ []) ≡ heads_of os ++ head_of o ∷ []
+pub heads_push : (os : List Object) (o : Object) → heads_of (os ++ o ∷ []) ≡ heads_of os ++ head_of o ∷ []
 unfolding heads_of
 heads_push os o = map_push head_of os o
 

@@ -66,3 +66,29 @@ module _ (n : Numbered) (own : Known) (rows : List ArrayRow) (s : IsSound n own)
 
 pub grows_arrays : (n : Numbered) (rows : List ArrayRow) → ShapesStay (shapes_of n.arrays) (shapes_of rows) → Grows n (record n { arrays = rows })
 grows_arrays n rows t = record { classes = λ mirror class e. e; arrays = t; files = refl; launch = refl }
+
+-- ---- a class object of an array class
+
+module _ (n : Numbered) (rows : List ArrayRow) (e : shapes_of rows ≡ shapes_of n.arrays) where
+  count : length rows ≡ length n.arrays
+  count = sym (shapes_count rows) ∙ ap length e ∙ shapes_count n.arrays
+
+  pub named_rows : (objects : FieldShape → Option ℕ) → objects_of rows ≡ objects → named (record n { arrays = rows }) ≡ record (named n) { arrays = objects }
+  unfolding named
+  named_rows objects o =
+      let new : Isolate = named (record n { arrays = rows }) in
+      let types : types_in (classes_of n.mirrors) (shapes_of rows) (heads_of n.env.heap.state.objects) ≡ types_in (classes_of n.mirrors) (shapes_of n.arrays) (heads_of n.env.heap.state.objects) =
+      ap (λ (ss : List FieldShape). types_in (classes_of n.mirrors) ss (heads_of n.env.heap.state.objects)) e in
+      ap (λ (ts : List ReferenceType). record new { types = ts }) types
+      ∙ ap (λ (os : FieldShape → Option ℕ). record new { types = types_in (classes_of n.mirrors) (shapes_of n.arrays) (heads_of n.env.heap.state.objects); arrays = os }) o
+
+  pub sound_rows : (own : Known) → IsSound n own → IsSound (record n { arrays = rows }) own
+  sound_rows own s = record {
+    objects = subst (λ (few : ℕ). All (HasType (length (classes_of n.mirrors)) few) (heads_of n.env.heap.state.objects)) (sym count) s.objects;
+    classes = s.classes;
+    set = s.set;
+    known = s.known;
+  }
+
+  pub grows_rows : Grows n (record n { arrays = rows })
+  grows_rows = grows_arrays n rows (λ row shape h. subst (λ (ss : List FieldShape). slice_get ss row ≡ Some shape) (sym e) h)

@@ -9,3 +9,10 @@ pub mod Beginning
 pub mod Keeping
 pub mod Allocating
 pub mod Mirroring
+pub mod Typing
+pub mod ArrayTypes
+pub mod Writing
+pub mod Staying
+pub mod Adding
+pub mod Interned
+pub mod Calling

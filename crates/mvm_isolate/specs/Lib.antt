@@ -15,3 +15,4 @@ pub mod Beginning
 pub mod Numbered
 pub mod Sound
 pub mod Allocated
+pub mod Interning

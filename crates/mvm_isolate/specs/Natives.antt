@@ -20,6 +20,8 @@ use Rattle.mvm_isolate.specs.Instances.{is_instance}
 use Rattle.mvm_isolate.specs.Isolate.{Isolate, stopped, machine_in, after_native}
 use Rattle.mvm_isolate.specs.Look.{Look}
 use Rattle.mvm_isolate.specs.Types.{ReferenceType, of_class, of_array, STRING}
+use Rattle.mvm_base.specs.declared.memory.OutOfMemory.{OutOfMemory}
+use Rattle.mvm_isolate.specs.declared.stop.Stop.TheVariants as stop
 
 abbrev pub type_of_base : Base → FieldShape → ReferenceType
 type_of_base (Object name) shape = of_class name
@@ -54,3 +56,8 @@ native_called launch thread links native args s =
     if fits native args (machine_in launch thread links s)
     then Ok ((called native args (machine_in launch thread links s)).0, after_native (called native args (machine_in launch thread links s)).1 s)
     else stopped VerifyError
+
+-- what an attempt comes to where a native method answered, or memory ran out
+abbrev pub out_or : Result Out OutOfMemory → Result Out Stop
+out_or (Ok out) = Ok out
+out_or (Err refused) = Err stop.OutOfMemory

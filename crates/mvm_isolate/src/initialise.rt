@@ -33,6 +33,7 @@ impl Isolate {
     pub fn finish(&mut self, mirror: u32)
         requires { IsClass self.old mirror }
         ensures named { named self.new ≡ finished (name_at self.old mirror) (named self.old) }
+        ensures links { self.new.env.links ≡ self.old.env.links }
         ensures grows { Grows self.old self.new }
     {
         let _class = self.mirrors.class(mirror);
@@ -43,6 +44,7 @@ impl Isolate {
     pub fn fail(&mut self, mirror: u32)
         requires { IsClass self.old mirror }
         ensures named { named self.new ≡ failed (name_at self.old mirror) (named self.old) }
+        ensures links { self.new.env.links ≡ self.old.env.links }
         ensures grows { Grows self.old self.new }
     {
         let _class = self.mirrors.class(mirror);

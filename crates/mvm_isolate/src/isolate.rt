@@ -13,6 +13,7 @@ use mvm_history::Launch;
 use mvm_mirror::{Arrays, Mirrors};
 use mvm_native::{Env, LinkUse, Thrown};
 use mvm_table::Table;
+use std::alloc::Global;
 use std::marker::Model;
 use std::snapshot::Snapshot;
 use std::sync::ledger::Ledger;
@@ -68,6 +69,13 @@ impl Isolate {
         })
     }
 
+    /// Where the memory comes from that the machine itself takes.
+    pub fn alloc(&self) -> Global
+        ensures { result ≡ self.now.env.alloc }
+    {
+        self.env.alloc
+    }
+
     /// What the isolate was made from.
     #[tactic(auto, unfolding(crate::specs::Numbered::named))]
     pub fn launch(&self) -> &Launch
@@ -108,6 +116,7 @@ impl Isolate {
     pub fn notify(&mut self, object: u32) -> Option<u32>
         ensures thread { result ≡ longest object (named self.old).waits.waiters }
         ensures others { named self.new ≡ without_waiter object (named self.old) }
+        ensures links { self.new.env.links ≡ self.old.env.links }
         ensures grows { Grows self.old self.new }
     {
         self.env.waits.notify(object)

@@ -7,17 +7,22 @@
 //! has them. `specs/` has besides the definitions that a step of a thread is made of, below its frames.
 #![tactic(auto)]
 
+mod class_objects;
 mod faults;
 mod initialise;
 mod isolate;
 mod known;
 mod load;
+mod natives;
 mod objects;
 mod statics;
 mod stop;
+mod texts;
 mod type_at;
+mod types;
 
 pub use isolate::Isolate;
 pub use statics::{items_by, narrowed};
 pub use stop::Stop;
 pub use type_at::TypeAt;
+pub use types::items_of;

@@ -151,6 +151,7 @@ impl Isolate {
         ensures fault { IfErr result (λ stop. Fails Stop.OutOfMemory stop (looked_up ((look_of self.old).class name.now))) }
         // By names nothing changes.
         ensures same { named self.new ≡ named self.old }
+        ensures links { self.new.env.links ≡ self.old.env.links }
         ensures grows { Grows self.old self.new }
     {
         let set = self.env.launch.set;
@@ -230,6 +231,7 @@ impl Isolate {
         ensures shape { IfOk result (λ row. shape_at self.new row ≡ shape.now) }
         // By names nothing changes.
         ensures same { named self.new ≡ named self.old }
+        ensures links { self.new.env.links ≡ self.old.env.links }
         ensures grows { Grows self.old self.new }
     {
         self.arrays.add(shape)
