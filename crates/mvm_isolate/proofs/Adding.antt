@@ -1,10 +1,11 @@
 -- What is left where texts and arrays of chars came without a type: by names each has the type that its sort tells.
-use Rattle.std.proofs.Common.{◌≡◌, ℕ, zero, suc, ◌+◌, List, [], ◌∷◌, ◌++◌, length, map, drop, refl, sym, ap, subst, ◌∙◌}
+use Rattle.std.proofs.Common.{◌≡◌, ℕ, zero, suc, ◌+◌, List, [], ◌∷◌, ◌++◌, length, map, drop, replicate, refl, sym, ap, subst, ◌∙◌}
 use Rattle.std.specs.Prelude.{All}
 use Rattle.std.proofs.lemmas.List.{length-map, map-append}
-use Rattle.std.proofs.lemmas.List.Elements.{All-append, All-head, All-tail}
+use Rattle.std.proofs.lemmas.List.Elements.{All-append, All-head, All-replicate, All-tail}
 use Rattle.mvm_base.specs.declared.descriptor.FieldShape.{FieldShape}
-use Rattle.mvm_heap.specs.Objects.{Object}
+use Rattle.mvm_heap.specs.Heap.{free}
+use Rattle.mvm_heap.specs.Objects.{Object, State}
 use Rattle.mvm_heap.specs.declared.kind.ItemKind.TheVariants as item
 use Rattle.mvm_heap.specs.declared.kind.ObjectKind.{ObjectKind}
 use Rattle.mvm_heap.specs.declared.kind.ObjectKind.TheVariants as sort
@@ -12,19 +13,22 @@ use Rattle.mvm_mirror.specs.Arrays.{shapes_of}
 use Rattle.mvm_mirror.specs.Kept.{classes_of}
 use Rattle.mvm_native.specs.Unclassed.{Head, head_of, heads_of, unclassed_objects, unclassed_state, IsMade, IsTextOrChars}
 use Rattle.mvm_native.specs.declared.env.Env.{Env}
+use Rattle.mvm_region.specs.declared.monitor.Monitor.{Monitor}
 use Rattle.mvm_set.specs.declared.class.Lineage.{Lineage}
 use Rattle.mvm_isolate.specs.Isolate.{Isolate, plain_type_of, typed}
 use Rattle.mvm_isolate.specs.Numbered.{Numbered, named, type_by, type_of_head, types_in}
-use Rattle.mvm_isolate.specs.Sound.{HasType, IsSound, IsTyped}
+use Rattle.mvm_isolate.specs.Sound.{HasType, IsMonitor, IsSound, IsTyped}
 use Rattle.mvm_isolate.specs.Types.{ReferenceType, plain_type}
 use Rattle.mvm_isolate.specs.declared.known.Known.{Known}
+use Rattle.mvm_isolate.proofs.Allocating.{is_free}
 use Rattle.mvm_isolate.proofs.Keeping.{sound_env}
 
 -- the old objects are what they were, and behind them stand texts and arrays of chars
-pub record Adds (old new : List Object) : Type 0 where
+pub record Adds (old new : State) : Type 0 where
   pub more : List Head
-  pub heads : heads_of new ≡ heads_of old ++ more
+  pub heads : heads_of new.objects ≡ heads_of old.objects ++ more
   pub made : All IsMade more
+  pub monitors : new.monitors ≡ old.monitors ++ replicate (length more) free
 
 abbrev plain_head : Head → ReferenceType
 plain_head h = plain_type h.sort
@@ -85,7 +89,7 @@ made_typed classes arrays more a = λ k d l. typed_by classes arrays _ _ (a k d 
 
 -- ---- the isolate
 
-module _ (n : Numbered) (env : Env) (a : Adds n.env.heap.state.objects env.heap.state.objects) where
+module _ (n : Numbered) (env : Env) (a : Adds n.env.heap.state env.heap.state) where
   pub named_adds : named (record n { env = env })
       ≡ record (named n) { heap = unclassed_state env.heap.state; types = typed (unclassed_objects env.heap.state.objects) (named n).types; output = env.output; waits = env.waits }
   unfolding named
@@ -100,3 +104,5 @@ module _ (n : Numbered) (env : Env) (a : Adds n.env.heap.state.objects env.heap.
       (subst (λ (hs : List Head). All (HasType (length (classes_of n.mirrors)) (length n.arrays)) hs) (sym a.heads)
       (All-append (HasType (length (classes_of n.mirrors)) (length n.arrays)) (heads_of n.env.heap.state.objects) a.more s.objects
       (made_typed (length (classes_of n.mirrors)) (length n.arrays) a.more a.made)))
+      (subst (λ (ms : List Monitor). All IsMonitor ms) (sym a.monitors)
+      (All-append IsMonitor n.env.heap.state.monitors (replicate (length a.more) free) s.monitors (All-replicate IsMonitor (length a.more) free is_free)))

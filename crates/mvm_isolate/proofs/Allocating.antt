@@ -1,5 +1,5 @@
 -- What is left where the heap made an object: by names one object more of its type, with all that an isolate keeps.
-use Rattle.std.proofs.Common.{◌≡◌, ◌≢◌, ℕ, ◌+◌, ◌<◌, Bool, true, false, cond, List, [], ◌∷◌, ◌++◌, length, map, Result, Ok, Err, refl, sym, ap, subst, ◌∙◌}
+use Rattle.std.proofs.Common.{◌≡◌, ◌≢◌, ℕ, ◌+◌, ◌<◌, Bool, true, false, cond, List, [], ◌∷◌, ◌++◌, length, map, Result, Ok, Err, refl, sym, ap, subst, ◌∙◌, arith}
 use Rattle.std.specs.Prelude.{nat_lt, All, IfOk, OnErr}
 use Rattle.std.proofs.lemmas.List.{map_push}
 use Rattle.std.proofs.lemmas.List.Elements.{All-push}
@@ -12,10 +12,11 @@ use Rattle.mvm_mirror.specs.Arrays.{shapes_of}
 use Rattle.mvm_mirror.specs.Kept.{classes_of}
 use Rattle.mvm_native.specs.Unclassed.{Head, head_of, heads_of, unclassed_state, without_class}
 use Rattle.mvm_native.proofs.Unclassed.{unclassed_length, unclassed_placed, unclassed_result}
+use Rattle.mvm_region.specs.declared.monitor.Monitor.{Monitor}
 use Rattle.mvm_isolate.specs.Allocated.{made_or}
 use Rattle.mvm_isolate.specs.Isolate.{Isolate, allocated}
 use Rattle.mvm_isolate.specs.Numbered.{Numbered, named, type_of_head, types_in}
-use Rattle.mvm_isolate.specs.Sound.{Grows, HasType, IsSound}
+use Rattle.mvm_isolate.specs.Sound.{Grows, HasType, IsMonitor, IsSound}
 use Rattle.mvm_isolate.specs.Types.{ReferenceType}
 use Rattle.mvm_isolate.specs.declared.known.Known.{Known}
 use Rattle.mvm_isolate.specs.declared.stop.Stop.{Stop}
@@ -45,6 +46,20 @@ placed_more o s t k e = by (nat_lt s.size (words s.objects + words_of o)) e
     by false h =
         let both : ◌≡◌ {A = ℕ × State} (length s.objects, record s { objects = s.objects ++ o ∷ []; monitors = s.monitors ++ free ∷ [] }) (k, t) = cc in
         sym (ap (λ (x : ℕ × State). x.1.objects) both)
+
+placed_monitors : (o : Object) (s t : State) (k : ℕ) → placed o s ≡ Ok (k, t) → t.monitors ≡ s.monitors ++ free ∷ []
+unfolding placed
+placed_monitors o s t k e = by (nat_lt s.size (words s.objects + words_of o)) e
+  where
+    by : (b : Bool) → cond {A = Result (ℕ × State) AllocFault} b (Err fault.Full) (Ok (length s.objects, record s { objects = s.objects ++ o ∷ []; monitors = s.monitors ++ free ∷ [] })) ≡ Ok (k, t) → t.monitors ≡ s.monitors ++ free ∷ []
+    by true h = absurd cc
+    by false h =
+        let both : ◌≡◌ {A = ℕ × State} (length s.objects, record s { objects = s.objects ++ o ∷ []; monitors = s.monitors ++ free ∷ [] }) (k, t) = cc in
+        sym (ap (λ (x : ℕ × State). x.1.monitors) both)
+
+-- nobody owns a free monitor
+pub is_free : IsMonitor free
+is_free = record { owner = tt; count = omega arith }
 
 pub heads_push : (os : List Object) (o : Object) → heads_of (os ++ o ∷ []) ≡ heads_of os ++ head_of o ∷ []
 unfolding heads_of
@@ -83,8 +98,14 @@ module _ (n : Numbered) (own : Known) (held : Held) (o : Object) (r : Result ℕ
       by (Err fault.OutOfMemory) e = named_heap held n e
 
   pub alloc_sound : IsSound n own → HasType (length (classes_of n.mirrors)) (length n.arrays) (head_of o) → IsSound (with_heap held n) own
-  alloc_sound s h = sound_env n own (record n.env { heap = held }) s refl (by r a)
+  alloc_sound s h = sound_env n own (record n.env { heap = held }) s refl (by r a) (free_by r a)
     where
+      free_by : (q : Result ℕ AllocFault) → Allocates q (placed o n.env.heap.state) n.env.heap.state held.state → All IsMonitor held.state.monitors
+      free_by (Ok k) e =
+          subst (λ (ms : List Monitor). All IsMonitor ms) (sym (placed_monitors o n.env.heap.state held.state k e)) (All-push IsMonitor n.env.heap.state.monitors free s.monitors is_free)
+      free_by (Err fault.Full) e = subst (λ (t : State). All IsMonitor t.monitors) (sym e.1) s.monitors
+      free_by (Err fault.OutOfMemory) e = subst (λ (t : State). All IsMonitor t.monitors) (sym e) s.monitors
+
       by : (q : Result ℕ AllocFault) → Allocates q (placed o n.env.heap.state) n.env.heap.state held.state → All (HasType (length (classes_of n.mirrors)) (length n.arrays)) (heads_of held.state.objects)
       by (Ok k) e =
           subst (λ (hs : List Head). All (HasType (length (classes_of n.mirrors)) (length n.arrays)) hs) (sym (ap heads_of (placed_more o n.env.heap.state held.state k e) ∙ heads_push n.env.heap.state.objects o))

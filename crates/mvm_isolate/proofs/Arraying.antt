@@ -61,6 +61,7 @@ module _ (n : Numbered) (own : Known) (rows : List ArrayRow) (s : IsSound n own)
         objects = subst (λ (count : ℕ). All (HasType (length (classes_of n.mirrors)) count) (heads_of n.env.heap.state.objects)) (shapes_count rows) all;
         classes = s.classes;
         set = s.set;
+        monitors = s.monitors;
         known = s.known;
       }
 
@@ -87,6 +88,7 @@ module _ (n : Numbered) (rows : List ArrayRow) (e : shapes_of rows ≡ shapes_of
     objects = subst (λ (few : ℕ). All (HasType (length (classes_of n.mirrors)) few) (heads_of n.env.heap.state.objects)) (sym count) s.objects;
     classes = s.classes;
     set = s.set;
+    monitors = s.monitors;
     known = s.known;
   }
 

@@ -1,5 +1,5 @@
 -- What an isolate begins with.
-use Rattle.std.proofs.Common.{◌≡◌, ◌<◌, ℕ, List, [], length, refl, sym, ap, subst, ◌∙◌}
+use Rattle.std.proofs.Common.{◌∷◌, arith, ◌≡◌, ◌<◌, ℕ, List, [], length, refl, sym, ap, subst, ◌∙◌}
 use Rattle.std.specs.Prelude.{All}
 use Rattle.std.proofs.lemmas.List.Elements.{All-nil}
 use Rattle.mvm_heap.specs.Objects.{Object, State}
@@ -11,10 +11,11 @@ use Rattle.mvm_mirror.specs.declared.mirrors.Mirrors.{Mirrors}
 use Rattle.mvm_native.specs.Unclassed.{Head, heads_of, unclassed_objects, unclassed_state}
 use Rattle.mvm_native.specs.declared.env.Env.{Env}
 use Rattle.mvm_table.specs.Files.{File}
+use Rattle.mvm_region.specs.declared.monitor.Monitor.{Monitor}
 use Rattle.mvm_isolate.specs.Beginning.{bare, unseen}
 use Rattle.mvm_isolate.specs.Isolate.{Isolate}
 use Rattle.mvm_isolate.specs.Numbered.{Numbered, named, types_in}
-use Rattle.mvm_isolate.specs.Sound.{Loads, AreKnownIn, HasType, IsSound}
+use Rattle.mvm_isolate.specs.Sound.{Loads, AreKnownIn, HasType, IsSound, IsMonitor}
 use Rattle.mvm_isolate.specs.Types.{ReferenceType}
 use Rattle.mvm_isolate.specs.declared.known.Known.{Known}
 
@@ -32,6 +33,11 @@ no_heads : (os : List Object) → os ≡ [] → heads_of os ≡ []
 unfolding heads_of
 no_heads os e = ap heads_of e
 
+-- each object has a monitor, so there are no monitors where there are no objects
+pub no_monitors : (os : List Object) (ms : List Monitor) (count : ℕ) → count ≡ length os → count ≡ length ms → os ≡ [] → ms ≡ []
+no_monitors os [] count a b e = refl
+no_monitors os (m ∷ ms) count a b e = absurd (let l = ap length e in omega (arith, a, b, l))
+
 -- an isolate of these parts, of which no array class was met
 abbrev pub begun_with : Env → Mirrors → List (List File) → Numbered
 begun_with env mirrors files = record { env = env; mirrors = mirrors; arrays = []; files = files }
@@ -46,7 +52,7 @@ module _ (env : Env) (mirrors : Mirrors) (files : List (List File)) (e : env.hea
       ∙ ap (λ (s : State). record start { types = []; heap = s }) (no_class_numbers env.heap.state e)
       ∙ ap (λ (seen : Seen). record start { types = []; heap = env.heap.state; classes = seen }) (l.seen ∙ nothing_seen)
 
-  pub begins_sound : (own : Known) → env.launch.set < length files → AreKnownIn (classes_of mirrors) own → IsSound (begun_with env mirrors files) own
-  begins_sound own w k =
+  pub begins_sound : (own : Known) → env.launch.set < length files → AreKnownIn (classes_of mirrors) own → env.heap.state.monitors ≡ [] → IsSound (begun_with env mirrors files) own
+  begins_sound own w k m =
       let P : Head → Type 0 = HasType (length (classes_of mirrors)) 0 in
-      record { objects = subst (λ (hs : List Head). All P hs) (sym (no_heads env.heap.state.objects e)) (All-nil P); classes = l.loaded; set = w; known = k }
+      record { objects = subst (λ (hs : List Head). All P hs) (sym (no_heads env.heap.state.objects e)) (All-nil P); monitors = subst (λ (ms : List Monitor). All IsMonitor ms) (sym m) (All-nil IsMonitor); classes = l.loaded; set = w; known = k }

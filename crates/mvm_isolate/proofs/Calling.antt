@@ -28,6 +28,7 @@ use Rattle.mvm_isolate.specs.declared.known.Known.{Known}
 use Rattle.mvm_isolate.specs.declared.stop.Stop.{Stop}
 use Rattle.mvm_isolate.specs.declared.stop.Stop.TheVariants.{Throw, OutOfMemory as Memory}
 use Rattle.mvm_isolate.proofs.Adding.{named_adds, sound_adds, Adds}
+use Rattle.mvm_isolate.proofs.Interned.{same_adds}
 use Rattle.mvm_isolate.proofs.Keeping.{grows_env}
 
 -- the isolate with another environment
@@ -58,12 +59,12 @@ module _ (n : Numbered) (native : Native) (args : List Word) where
     adds : (out : Out) → called native args (machine_of n.env) ≡ (out, machine_of env) → Keeps (machine_of n.env) (machine_of env)
     adds out e = subst (λ (x : Out × Machine). Keeps (machine_of n.env) x.1) e (called_keeps native args (machine_of n.env))
 
-    all_adds : Adds n.env.heap.state.objects env.heap.state.objects
+    all_adds : Adds n.env.heap.state env.heap.state
     all_adds = by r c
       where
-        by : (q : Result Out OutOfMemory) → Called q (called native args (machine_of n.env)) (machine_of n.env) (machine_of env) → Adds n.env.heap.state.objects env.heap.state.objects
-        by (Ok out) e = let k = adds out e in record { more = k.heap.more; heads = k.heap.heads; made = k.heap.made }
-        by (Err refused) e = subst (λ (m : Machine). Adds n.env.heap.state.objects m.heap.objects) (sym e) (record { more = []; heads = sym (append-nil (heads_of n.env.heap.state.objects)); made = All-nil IsMade })
+        by : (q : Result Out OutOfMemory) → Called q (called native args (machine_of n.env)) (machine_of n.env) (machine_of env) → Adds n.env.heap.state env.heap.state
+        by (Ok out) e = let k = adds out e in record { more = k.heap.more; heads = k.heap.heads; made = k.heap.made; monitors = k.heap.monitors }
+        by (Err refused) e = same_adds n.env.heap.state env.heap.state (ap (λ (m : Machine). m.heap) e)
 
     kept_launch : env.launch ≡ n.env.launch
     kept_launch = by r c

@@ -49,6 +49,7 @@ unclassed_intern us s = ap (λ (o : Option ℕ). known_or o us (unclassed_state 
 record Placed (us : List ℕ) (s t : State) : Type 0 where
   pub objects : t.objects ≡ s.objects ++ text us ∷ []
   pub size : t.size ≡ s.size
+  pub monitors : t.monitors ≡ s.monitors ++ free ∷ []
   pub room : words s.objects + words_needed Text (length us) ≤ s.size
 
 noted_new : (us : List ℕ) (s t : State) (k : ℕ) → noted (placed (text us) s) ≡ Ok (k, t) → Placed us s t
@@ -64,6 +65,7 @@ noted_new us s t k e = by (nat_lt s.size (words s.objects + words_of (text us)))
         record {
           objects = sym (ap (λ (x : ℕ × State). x.1.objects) both);
           size = sym (ap (λ (x : ℕ × State). x.1.size) both);
+          monitors = sym (ap (λ (x : ℕ × State). x.1.monitors) both);
           room = ltb-false s.size (words s.objects + words_of (text us)) f;
         }
 
@@ -72,15 +74,21 @@ unfolding words
 words_push [] o = omega arith
 words_push (p ∷ os) o = let h = words_push os o in omega (arith, h)
 
-text_adds : (us : List ℕ) (s t : State) → Placed us s t → Adds s.objects t.objects
+text_adds : (us : List ℕ) (s t : State) → Placed us s t → Adds s t
 text_adds us s t p = record {
   more = head_of (text us) ∷ [];
   heads = ap heads_of p.objects ∙ heads_push s.objects (text us);
   made = All-cons IsMade (head_of (text us)) [] (record { sort = tt; class = refl }) (All-nil IsMade);
+  monitors = p.monitors;
 }
 
-same_adds : (s t : State) → t ≡ s → Adds s.objects t.objects
-same_adds s t e = record { more = []; heads = ap (λ (u : State). heads_of u.objects) e ∙ sym (append-nil (heads_of s.objects)); made = All-nil IsMade }
+pub same_adds : (s t : State) → t ≡ s → Adds s t
+same_adds s t e = record {
+  more = [];
+  heads = ap (λ (u : State). heads_of u.objects) e ∙ sym (append-nil (heads_of s.objects));
+  made = All-nil IsMade;
+  monitors = ap (λ (u : State). u.monitors) e ∙ sym (append-nil s.monitors);
+}
 
 -- ---- a text that is not interned yet
 
@@ -90,10 +98,10 @@ module _ (n : Numbered) (own : Known) (held : Held) (us : List ℕ) (none : inte
   unfolding intern
   is_noted = ap (λ (o : Option ℕ). known_or o us n.env.heap.state) none
 
-  new_adds : Adds n.env.heap.state.objects held.state.objects
+  new_adds : Adds n.env.heap.state held.state
   new_adds = by r a
     where
-      by : (q : Result ℕ AllocFault) → Allocates q (intern us n.env.heap.state) n.env.heap.state held.state → Adds n.env.heap.state.objects held.state.objects
+      by : (q : Result ℕ AllocFault) → Allocates q (intern us n.env.heap.state) n.env.heap.state held.state → Adds n.env.heap.state held.state
       by (Ok k) e = text_adds us n.env.heap.state held.state (noted_new us n.env.heap.state held.state k (sym is_noted ∙ e))
       by (Err fault.Full) e = same_adds n.env.heap.state held.state e.1
       by (Err fault.OutOfMemory) e = same_adds n.env.heap.state held.state e

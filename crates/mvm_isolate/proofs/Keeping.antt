@@ -9,7 +9,7 @@ use Rattle.mvm_native.specs.declared.env.Env.{Env}
 use Rattle.mvm_native.specs.declared.env.LinkUse.{LinkUse}
 use Rattle.mvm_isolate.specs.Isolate.{Isolate}
 use Rattle.mvm_isolate.specs.Numbered.{Numbered, named}
-use Rattle.mvm_isolate.specs.Sound.{Grows, AreOfSet, HasType, IsSound}
+use Rattle.mvm_isolate.specs.Sound.{Grows, AreOfSet, HasType, IsMonitor, IsSound}
 use Rattle.mvm_isolate.specs.declared.known.Known.{Known}
 
 pub grows_same : (n : Numbered) → Grows n n
@@ -26,10 +26,11 @@ grows_then old mid new g h = record {
 pub grows_env : (n : Numbered) (env : Env) → env.launch ≡ n.env.launch → Grows n (record n { env = env })
 grows_env n env e = record { classes = λ mirror class h. h; arrays = λ row shape h. h; files = refl; launch = e }
 
-pub sound_env : (n : Numbered) (own : Known) (env : Env) → IsSound n own → env.launch ≡ n.env.launch → All (HasType (length (classes_of n.mirrors)) (length n.arrays)) (heads_of env.heap.state.objects)
+pub sound_env : (n : Numbered) (own : Known) (env : Env) → IsSound n own → env.launch ≡ n.env.launch → All (HasType (length (classes_of n.mirrors)) (length n.arrays)) (heads_of env.heap.state.objects) → All IsMonitor env.heap.state.monitors
     → IsSound (record n { env = env }) own
-sound_env n own env s e a = record {
+sound_env n own env s e a m = record {
   objects = a;
+  monitors = m;
   classes = subst (λ (launch : Launch). AreOfSet n.files launch.set (classes_of n.mirrors)) (sym e) s.classes;
   set = subst (λ (launch : Launch). launch.set < length n.files) (sym e) s.set;
   known = s.known;

@@ -16,3 +16,4 @@ pub mod Staying
 pub mod Adding
 pub mod Interned
 pub mod Calling
+pub mod Owning

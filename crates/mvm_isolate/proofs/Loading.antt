@@ -142,6 +142,7 @@ sound_loads n own mirrors s l =
       objects = subst (λ (count : ℕ). All (HasType (length (classes_of mirrors)) count) heads) (shapes_count n.arrays) objects;
       classes = l.loaded;
       set = s.set;
+      monitors = s.monitors;
       known = known_stay (classes_of n.mirrors) (classes_of mirrors) own l.numbers s.known;
     }
 

@@ -28,6 +28,7 @@ module _ (n : Numbered) (mirrors : Mirrors) (e : classes_of mirrors ≡ classes_
     objects = subst (λ (cs : List Lineage). All (HasType (length cs) (length n.arrays)) (heads_of n.env.heap.state.objects)) (sym e) s.objects;
     classes = subst (AreOfSet n.files n.env.launch.set) (sym e) s.classes;
     set = s.set;
+    monitors = s.monitors;
     known = subst (λ (cs : List Lineage). AreKnownIn cs own) (sym e) s.known;
   }
 

@@ -10,7 +10,7 @@ use Rattle.mvm_native.proofs.Kept.{heads_written}
 use Rattle.mvm_native.proofs.Unclassed.{unclassed_written}
 use Rattle.mvm_isolate.specs.Isolate.{Isolate, with_number}
 use Rattle.mvm_isolate.specs.Numbered.{Numbered, named, type_of_head, types_in}
-use Rattle.mvm_isolate.specs.Sound.{HasType, IsSound}
+use Rattle.mvm_isolate.specs.Sound.{HasType, IsMonitor, IsSound}
 use Rattle.mvm_isolate.specs.Types.{ReferenceType}
 use Rattle.mvm_isolate.specs.declared.known.Known.{Known}
 use Rattle.mvm_isolate.proofs.Allocating.{with_heap}
@@ -35,3 +35,4 @@ module _ (n : Numbered) (held : Held) (object place number : ℕ) (e : held.stat
   pub sound_written : (own : Known) → IsSound n own → IsSound (with_heap held n) own
   sound_written own s =
       sound_env n own (record n.env { heap = held }) s refl (subst (λ (hs : List Head). All (HasType (length (classes_of n.mirrors)) (length n.arrays)) hs) (sym heads) s.objects)
+      (subst (λ (t : State). All IsMonitor t.monitors) (sym e) s.monitors)

@@ -1,5 +1,5 @@
 -- What every isolate in memory keeps, so that numbers stand for names, and what stays of numbers when an isolate changes.
-use Rattle.std.specs.Prelude.{◌≡◌, ◌<◌, ℕ, List, length, slice_get, slice_index, All, Some}
+use Rattle.std.specs.Prelude.{◌≡◌, ◌<◌, ℕ, List, length, slice_get, slice_index, All, Some, ◌≤◌, ◌^◌, IfSome}
 use Rattle.mvm_base.specs.declared.descriptor.FieldShape.{FieldShape}
 use Rattle.mvm_heap.specs.declared.kind.ItemKind.TheVariants as item
 use Rattle.mvm_heap.specs.declared.kind.ObjectKind.{ObjectKind}
@@ -10,6 +10,7 @@ use Rattle.mvm_mirror.specs.Seen.{IsNumbered}
 use Rattle.mvm_mirror.specs.declared.mirrors.Mirrors.{Mirrors}
 use Rattle.mvm_native.specs.Unclassed.{Head, heads_of}
 use Rattle.mvm_native.specs.declared.out.Thrown.{Thrown}
+use Rattle.mvm_region.specs.declared.monitor.Monitor.{Monitor}
 use Rattle.mvm_set.specs.declared.class.Lineage.{Lineage}
 use Rattle.mvm_table.specs.Files.{File}
 use Rattle.mvm_table.specs.Loads.{IsLoaded}
@@ -28,6 +29,11 @@ IsTyped classes arrays sort class = Unit {0}
 
 abbrev pub HasType : ℕ → ℕ → Head → Type 0
 HasType classes arrays head = IsTyped classes arrays head.sort head.class
+
+-- the owner of a monitor is one of 64 threads, and it was entered at most 2^32 times
+pub record IsMonitor (monitor : Monitor) : Type 0 where
+  pub owner : IfSome monitor.owner (λ thread. thread < 64)
+  pub count : monitor.count ≤ 2 ^ 32
 
 -- the class is the one that loading gives for its name, in this set
 pub record IsOfSet (files : List (List File)) (set : ℕ) (class : Lineage) : Type 0 where
@@ -53,6 +59,7 @@ pub record AreKnownIn (classes : List Lineage) (known : Known) : Type 0 where
 
 pub record IsSound (n : Numbered) (own : Known) : Type 0 where
   pub objects : All (HasType (length (classes_of n.mirrors)) (length n.arrays)) (heads_of n.env.heap.state.objects)
+  pub monitors : All IsMonitor n.env.heap.state.monitors
   pub classes : AreOfSet n.files n.env.launch.set (classes_of n.mirrors)
   -- the set is one of the table's
   pub set : n.env.launch.set < length n.files

@@ -56,7 +56,9 @@ impl Isolate {
         requires empty { env.heap.state.objects ≡ [] }
         ensures named { IfOk result (λ isolate. named isolate ≡ bare env) }
         ensures files { IfOk result (λ isolate. isolate.files ≡ table.now.files) }
+        ensures env { IfOk result (λ isolate. isolate.env ≡ env) }
     {
+        let _count = env.heap.count();
         let mut mirrors = Mirrors::new(env.alloc);
         let known = known_classes(env.alloc, &mut mirrors, table, env.launch.set, steps)?;
         let arrays = Arrays::new(env.alloc);

@@ -7,7 +7,7 @@ ghost use Rattle.mvm_isolate.specs.Allocated.{made_or, stopped_alloc};
 ghost use Rattle.mvm_isolate.specs.Isolate.{new_array, new_object, new_text, with_number};
 ghost use Rattle.mvm_isolate.specs.Monitors.{monitor_at, with_monitor};
 ghost use Rattle.mvm_isolate.specs.Numbered.{name_at, named, shape_at, IsArray, IsClass};
-ghost use Rattle.mvm_isolate.specs.Sound.{Grows};
+ghost use Rattle.mvm_isolate.specs.Sound.{Grows, IsMonitor};
 
 use crate::isolate::Isolate;
 use crate::stop::Stop;
@@ -75,6 +75,16 @@ impl Isolate {
         self.env.heap.number(object, place)
     }
 
+    /// A unit of a text.
+    #[tactic(auto, unfolding(crate::specs::Numbered::named), using(mvm_native::proofs::Unclassed::unclassed_contents, mvm_native::proofs::Unclassed::unclassed_number, mvm_native::proofs::Unclassed::unclassed_sort))]
+    pub fn unit(&self, object: u32, place: u32) -> u16
+        requires place { place < length (object_at (named self.now).heap.objects object).contents }
+        requires text { (object_at (named self.now).heap.objects object).sort ≡ Text }
+        ensures { result ≡ number_at (named self.now).heap.objects object place }
+    {
+        self.env.heap.unit(object, place)
+    }
+
     /// What a field of an object holds, as a value of this kind.
     #[tactic(auto, unfolding(crate::specs::Numbered::named), using(mvm_native::proofs::Unclassed::unclassed_contents, mvm_native::proofs::Unclassed::unclassed_number))]
     pub fn field(&self, object: u32, place: u32, kind: Kind) -> Word
@@ -85,10 +95,12 @@ impl Isolate {
     }
 
     /// The monitor of an object.
-    #[tactic(auto, unfolding(crate::specs::Numbered::named), using(mvm_native::proofs::Unclassed::unclassed_length))]
+    #[tactic(auto, unfolding(crate::specs::Numbered::named), using(crate::proofs::Owning::monitor_kept, mvm_native::proofs::Unclassed::unclassed_length))]
     pub fn monitor(&self, object: u32) -> Monitor
         requires { object < length (named self.now).heap.objects }
-        ensures { monitor_at (named self.now) object ≡ Some result }
+        ensures is { monitor_at (named self.now) object ≡ Some result }
+        // Its owner is one of 64 threads, and its count at most 2^32.
+        ensures kept { IsMonitor result }
     {
         self.env.heap.monitor(object)
     }
