@@ -25,6 +25,7 @@ use Rattle.mvm_isolate.specs.declared.stop.Stop.{Stop}
 use Rattle.mvm_current.specs.Entries.{type_entry}
 use Rattle.mvm_current.specs.Values.{not_null, popped_int}
 use Rattle.mvm_current.specs.Frames.{Frame, pushed, popped}
+use Rattle.mvm_initialise.specs.Arrays.{arrays_made}
 use Rattle.mvm_thread.specs.Going.{Context, Point, Went, going_on, pushing, in_isolate, in_frame}
 
 -- ---- items
@@ -145,19 +146,6 @@ popped_lengths (suc n) lengths f = popped_int f >>= λ x. popped_lengths n (x.0 
 abbrev pub counts_of : List ℤ → Result (List ℕ) Stop
 counts_of [] = Ok []
 counts_of (n ∷ ns) = count_of n >>= λ count. counts_of ns >>= λ counts. Ok (count ∷ counts)
-
--- so many items from a place on, each made anew
-abbrev pub items_made : (Isolate → Result (ℕ × Isolate) Stop) → ℕ → ℕ → ℕ → Isolate → Result Isolate Stop
-items_made make array place zero s = Ok s
-items_made make array place (suc n) s = make s >>= λ x. items_made make array (place + 1) n (with_number array place (bits_of (Ref x.0)) x.1)
-
--- an array of these lengths, first itself and then its items in order, each by this rule
-unfoldable pub arrays_made : FieldShape → List ℕ → Isolate → Result (ℕ × Isolate) Stop
-arrays_made shape [] s = stopped VerifyError
-arrays_made shape (count ∷ []) s = new_array shape count s
-arrays_made shape (count ∷ next ∷ counts) s =
-    new_array shape count s >>= λ x.
-    items_made (arrays_made (record shape { dims = shape.dims - 1 }) (next ∷ counts)) x.0 0 count x.1 >>= λ made. Ok (x.0, made)
 
 -- multianewarray
 unfoldable pub make_arrays : Context → ℕ → ℕ → ℕ → Point → Result Went Stop

@@ -11,6 +11,7 @@ use Rattle.mvm_isolate.specs.Monitors.{monitor_at, with_monitor}
 use Rattle.mvm_isolate.specs.declared.stop.Stop.{Stop}
 use Rattle.mvm_current.specs.Values.{not_null}
 use Rattle.mvm_current.specs.Frames.{Frame, popped}
+use Rattle.mvm_initialise.specs.Locks.{entered_if}
 use Rattle.mvm_thread.specs.Going.{Context, Point, Went, entering, going_on, stays, in_isolate}
 
 abbrev pub is_owner : ℕ → Option ℕ → Bool
@@ -30,10 +31,6 @@ unfoldable pub owns : ℕ → ℕ → Isolate → Bool
 owns thread object s = is_owned thread (monitor_at s object)
 
 -- ---- entering
-
-abbrev pub entered_if : ℕ → Monitor → Option ℕ → Option Monitor
-entered_if thread monitor None = Some (entered monitor thread)
-entered_if thread monitor (Some owner) = if owner == thread then Some (entered monitor thread) else None
 
 -- the isolate once the thread has entered the monitor of an object, where no other thread owns it
 abbrev pub with_entered : ℕ → Isolate → Option Monitor → Option Isolate

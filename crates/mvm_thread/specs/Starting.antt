@@ -33,6 +33,7 @@ use Rattle.mvm_isolate.specs.declared.stop.Stop.{Stop}
 use Rattle.mvm_thread.specs.Calls.{without_code, receiver_class, selected_in}
 use Rattle.mvm_thread.specs.Entries.{once_initialised, by_begin, may_begin}
 use Rattle.mvm_current.specs.Frames.{Runs, method, Frame, called_frame, at_place, if_room, LAST}
+use Rattle.mvm_initialise.specs.Arguments.{arguments_made}
 use Rattle.mvm_thread.specs.Going.{Context, Point, Went, does, throws, ready, in_isolate}
 use Rattle.mvm_thread.specs.Monitors.{once_entered}
 
@@ -52,15 +53,6 @@ started c runs lock code object p =
     Ok (record { isolate = p.isolate; frames = fs; object = c.object; after = does ready })
 
 -- ---- main (5.2)
-
--- the array of arguments, and then its texts
-abbrev pub texts_made : ℕ → ℕ → List (List ℕ) → Isolate → Result Isolate Stop
-texts_made array place [] s = Ok s
-texts_made array place (units ∷ others) s = new_text units s >>= λ x. texts_made array (place + 1) others (with_number array place (bits_of (Ref x.0)) x.1)
-
-unfoldable pub arguments_made : List (List ℕ) → Isolate → Result (ℕ × Isolate) Stop
-arguments_made texts s =
-    new_array (record { dims = 1; base = Object STRING }) (length texts) s >>= λ x. texts_made x.0 0 texts x.1 >>= λ made. Ok (x.0, made)
 
 abbrev pub or_no_method : Result Found LinkFault → Result Found Stop
 or_no_method (Ok found) = Ok found

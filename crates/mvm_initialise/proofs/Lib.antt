@@ -1,0 +1,10 @@
+pub mod Sums
+pub mod Entering
+pub mod Wanted
+pub mod Agreeing
+pub mod Setting
+pub mod Starts
+pub mod Running
+pub mod Taking
+pub mod Filling
+pub mod Calling
