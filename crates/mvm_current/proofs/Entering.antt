@@ -94,7 +94,7 @@ entered : (key : FrameKey) (locals depth args : ℕ) (old new : StackParts) → 
 unfolding enter
 entered key locals depth args old new e = answered (fits locals depth old) (with_frame key locals depth args old) new e
 
-full : (key : FrameKey) (locals depth args : ℕ) (old : StackParts) (fault : Refused) → enter key locals depth args old ≡ Err fault → fits locals depth old ≡ false
+pub full : (key : FrameKey) (locals depth args : ℕ) (old : StackParts) (fault : Refused) → enter key locals depth args old ≡ Err fault → fits locals depth old ≡ false
 unfolding enter
 full key locals depth args old fault e = refused (fits locals depth old) (with_frame key locals depth args old) fault e
 

@@ -1,6 +1,6 @@
 //! What the constant pool of the class of the current frame has, resolved (JVM Specification 5.4.3).
 
-ghost use Rattle.std.specs.Prelude.{◌≡◌, List, Some, Ok, Err, IsSome, IfOk, IfErr, OnOk};
+ghost use Rattle.std.specs.Prelude.{◌≡◌, ◌≢◌, List, Some, Ok, Err, IsSome, IfOk, IfErr, OnOk};
 ghost use Rattle.std.specs.Str.{bytes_eq};
 ghost use Rattle.mvm_base.specs.Answers.{AnswersUnless, Fails};
 ghost use Rattle.mvm_isolate.specs.Numbered.{class_at, look_of, IsClass};
@@ -226,7 +226,8 @@ pub fn may_store(
 ) -> Result<(), Stop>
     requires frame { IsSome stack.now.rest.below.key }
     requires keys { AreKeys isolate.now stack.now }
-    ensures { result ≡ may_store name.now member.now (top_named isolate.now stack.now) }
+    ensures is { result ≡ may_store name.now member.now (top_named isolate.now stack.now) }
+    ensures memory { IfErr result (λ stop. stop ≢ Stop.OutOfMemory) }
 {
     if has_flag(FINAL, member.flags()) && !is_method_of(isolate, stack, member.class(), name) {
         Err(Stop::Throw(Thrown::IllegalAccessError))

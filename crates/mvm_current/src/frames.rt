@@ -1,6 +1,6 @@
 //! The frames of a thread by what they run (JVM Specification 2.6).
 
-ghost use Rattle.std.specs.Prelude.{◌≡◌, ◌≢◌, ◌≤◌, ◌∷◌, ℕ, length, true, Ok, IsSome, OnOk, OnErr, IfSome};
+ghost use Rattle.std.specs.Prelude.{◌≡◌, ◌≢◌, ◌≤◌, ◌∷◌, ℕ, length, max, true, Ok, IsOk, IsSome, OnOk, OnErr, IfSome};
 ghost use Rattle.mvm_base.specs.Answers.{Does};
 ghost use Rattle.mvm_frame.specs.Calls.{fits};
 ghost use Rattle.mvm_history.specs.declared.limits.Limits.{Limits as LimitsOf};
@@ -109,6 +109,8 @@ pub fn enter_method(
     ensures does { (n : Numbered) (limits : LimitsOf) → IsStackOf limits stack.old → Does result (if_room limits (called_frame (runs_of n key 0) key.lock locals depth slots stack.old.operands.slots) (without slots (top_named n stack.old) ∷ callers_named n stack.old)) (frames_named n stack.new) }
     ensures keys { (n : Numbered) → IsKey n key → AreKeys n stack.old → OnOk result (AreKeys n stack.new) }
     ensures limits { (limits : LimitsOf) → IsStackOf limits stack.old → IsStackOf limits stack.new }
+    // What has room is entered.
+    ensures room { fits (max locals slots) depth stack.old ≡ true → IsOk result }
     ensures err { OnErr result (stack.new ≡ stack.old) }
 {
     match stack.enter_with(key, locals.max(slots), depth, slots) {

@@ -1,6 +1,6 @@
 //! The values on the operands of the current frame (JVM Specification 2.6.2), with every refusal a VerifyError.
 
-ghost use Rattle.std.specs.Prelude.{◌≡◌, IsSome, OnErr};
+ghost use Rattle.std.specs.Prelude.{◌≡◌, ◌≢◌, IsSome, IfErr, OnErr};
 ghost use Rattle.mvm_base.specs.Answers.{Does, Gives};
 ghost use Rattle.mvm_isolate.specs.Numbered.{Numbered};
 ghost use Rattle.mvm_current.specs.Frames.{popped, pushed};
@@ -25,6 +25,7 @@ pub fn pop(stack: &mut Stack, kind: Kind) -> Result<Word, Stop>
     ensures depth { stack.new.operands.depth ≡ stack.old.operands.depth }
     ensures rest { stack.new.rest ≡ stack.old.rest }
     ensures err { OnErr result (stack.new ≡ stack.old) }
+    ensures memory { IfErr result (λ stop. stop ≢ Stop.OutOfMemory) }
 {
     match stack.pop(kind) {
         Ok(word) => Ok(word),
@@ -44,6 +45,7 @@ pub fn pop_int(stack: &mut Stack) -> Result<i32, Stop>
     ensures does { (n : Numbered) → Gives result (popped_int (top_named n stack.old)) (top_named n stack.new) }
     ensures depth { stack.new.operands.depth ≡ stack.old.operands.depth }
     ensures rest { stack.new.rest ≡ stack.old.rest }
+    ensures memory { IfErr result (λ stop. stop ≢ Stop.OutOfMemory) }
 {
     match pop(stack, Kind::Int)? {
         Word::Int(value) => Ok(value),
@@ -64,6 +66,7 @@ pub fn push(stack: &mut Stack, word: Word) -> Result<(), Stop>
     ensures depth { stack.new.operands.depth ≡ stack.old.operands.depth }
     ensures rest { stack.new.rest ≡ stack.old.rest }
     ensures err { OnErr result (stack.new ≡ stack.old) }
+    ensures memory { IfErr result (λ stop. stop ≢ Stop.OutOfMemory) }
 {
     match stack.push(word) {
         Ok(()) => Ok(()),
@@ -90,7 +93,8 @@ pub(crate) fn width(kind: Kind) -> usize
 #[tactic(auto, unfolding(crate::specs::Values::may_push))]
 #[inline]
 pub fn may_push(stack: &Stack, kind: Kind) -> Result<(), Stop>
-    ensures { (n : Numbered) → result ≡ may_push kind (top_named n stack.now) }
+    ensures is { (n : Numbered) → result ≡ may_push kind (top_named n stack.now) }
+    ensures memory { IfErr result (λ stop. stop ≢ Stop.OutOfMemory) }
 {
     if width(kind) <= stack.room() {
         Ok(())

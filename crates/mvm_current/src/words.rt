@@ -1,6 +1,6 @@
 //! The arguments of a call, on the operands of the current frame (JVM Specification 2.6.1).
 
-ghost use Rattle.std.specs.Prelude.{◌≡◌, ◌≤◌, ◌^◌, length, reverse, take, Some, IfOk};
+ghost use Rattle.std.specs.Prelude.{◌≡◌, ◌≢◌, ◌≤◌, ◌^◌, length, reverse, take, Some, IfErr, IfOk};
 ghost use Rattle.mvm_base.specs.Answers.{AnswersUnless};
 ghost use Rattle.mvm_current.specs.Arguments.{a_long, a_ref, an_int, arguments, head_word, receiver_in, widths, words_in};
 ghost use Rattle.mvm_current.specs.Values.{not_null, width};
@@ -100,7 +100,8 @@ pub fn arguments(alloc: Global, stack: &Stack, kinds: &[Kind]) -> Result<List<Wo
 ///
 /// A `NullPointerException` where it is null, a `VerifyError` where it is no reference.
 pub fn not_null(word: Word) -> Result<u32, Stop>
-    ensures { result ≡ not_null word }
+    ensures is { result ≡ not_null word }
+    ensures memory { IfErr result (λ stop. stop ≢ Stop.OutOfMemory) }
 {
     match word {
         Word::Ref(object) => Ok(object),

@@ -392,3 +392,20 @@ no_caller (r ∷ rs) ws at h = rw (slice_get_past (callers_of (r ∷ rs) ws) at 
 pub waits_on : (top : Row) (rows : List Row) → 1 < length rows → IsSome (key_of top.key rows)
 waits_on top [] h = absurd (omega arith)
 waits_on top (r ∷ rs) h = refl
+
+fits_left_by : (top : Row) (rows : List Row) (most : ℕ) (ws : List Slot) (locals depth : ℕ) → Stands top rows ws → length rows ≤ most → IsSome (key_of top.key rows)
+    → fits locals depth (stack_with (callers_of rows ws) most (length ws)) ≡ nat_le (locals + depth) top.base
+unfolding Beneath
+fits_left_by top [] most ws locals depth h few some = absurd cc
+fits_left_by top (r ∷ rs) most ws locals depth h few some =
+    let b : (top.base ≡ r.floor) × InOrder r (length ws) × Beneath r.floor r.base rs (length ws) = h.beneath in
+    let s : Stands r rs ws = left_stands r rs (r ∷ rs) top.floor top.base (length ws) ws refl h.few refl h.beneath in
+    ap (λ (x : StackParts). fits locals depth x) (sym (left_is r rs most ws s))
+    ∙ (fits_words r (record { most = most; rows = rs }) ws locals depth s (omega (arith, few)) ∙ ap (λ (k : ℕ). nat_le (locals + depth) k) (sym b.0))
+
+-- where the top frame is left, another one has the room from its base on
+pub fits_left : (top : Row) (callers : RowsParts) (ws : List Slot) (s : StackParts) (locals depth : ℕ) → Stands top callers.rows ws → stack_of top callers ws ≡ s → length callers.rows ≤ callers.most → IsSome s.rest.below.key
+    → nat_le (locals + depth) top.base ≡ fits locals depth (stack_with s.rest.below.callers s.rest.below.most s.rest.below.words)
+fits_left top callers ws s locals depth h is few some =
+    sym (fits_left_by top callers.rows callers.most ws locals depth h few (subst (λ (x : StackParts). IsSome x.rest.below.key) (sym is) some))
+    ∙ ap (λ (x : StackParts). fits locals depth (stack_with x.rest.below.callers x.rest.below.most x.rest.below.words)) is

@@ -239,6 +239,16 @@ impl Stack {
         !self.callers.is_full() && locals as usize + depth as usize <= self.top.floor
     }
 
+    /// The same where the top frame, which there is, is left first.
+    pub fn fits_instead(&self, locals: u16, depth: u16) -> bool
+        requires { IsSome self.now.rest.below.key }
+        ensures { result ≡ fits locals depth (stack_with self.now.rest.below.callers self.now.rest.below.most self.now.rest.below.words) }
+    {
+        // There are no more frames than there may be.
+        let _frames = self.callers.len();
+        locals as usize + depth as usize <= self.top.base
+    }
+
     /// A new frame on top, with pc 0 and no operand, whose first local variables are so many slots of operands of the frame
     /// below, which go from there; the others are unset (JVM Specification 2.6.1). `Full` where the frames or the words would pass
     /// their limit. There are so many operands and local variables. Who calls it sees to it that no long is cut.

@@ -8,3 +8,4 @@ pub mod Running
 pub mod Taking
 pub mod Filling
 pub mod Calling
+pub mod Dimensions

@@ -62,9 +62,14 @@ pub fn is_of_class(isolate: &Isolate, target: &Name, object: u32) -> bool
     }
 }
 
-/// Whether an object is an instance of the array type of these dimensions and this base.
+/// Whether an object is an instance of the array type of these dimensions and this base (JVM Specification 6.5, under instanceof); false where there
+/// is no such object.
+///
+/// # Errors
+///
+/// `Stop::OutOfMemory`.
 #[tactic(auto, unfolding(mvm_isolate::specs::Instances::is_instance))]
-fn is_of_array<L: Ledger>(
+pub fn is_of_array<L: Ledger>(
     isolate: &Isolate,
     table: &Table,
     dims: u8,

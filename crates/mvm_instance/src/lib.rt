@@ -3,7 +3,7 @@
 //!
 //! To the layers above it promises: each call answers exactly what its definition says of the isolate by names. [`is_of_class`], [`is_thrown_as`] and
 //! [`receiver_class`] take no memory; [`is_of_shape`] and [`is_element`] look classes up by name where both types are arrays of objects, and may
-//! run out of memory. No call changes the isolate.
+//! run out of memory. No call changes the isolate. [`catches`] and [`is_of_array`] are the same for a type and for an array type by its parts.
 #![tactic(auto)]
 
 mod arrays;
@@ -12,5 +12,5 @@ mod instances;
 mod looked;
 mod receivers;
 
-pub use instances::{is_element, is_of_class, is_of_shape};
-pub use receivers::{is_thrown_as, receiver_class};
+pub use instances::{is_element, is_of_array, is_of_class, is_of_shape};
+pub use receivers::{catches, is_thrown_as, receiver_class};

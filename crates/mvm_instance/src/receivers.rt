@@ -8,9 +8,9 @@ use mvm_base::Name;
 use mvm_isolate::{Isolate, Stop, TypeAt};
 use mvm_native::Thrown;
 
-/// Whether an object of this type is caught as one of the class of a name.
+/// Whether an object of this type is caught as one of the class of a name (JVM Specification 2.10). It takes no memory.
 #[tactic(auto, unfolding(mvm_isolate::specs::Numbered::type_of))]
-fn catches(isolate: &Isolate, name: &Name, at: TypeAt) -> bool
+pub fn catches(isolate: &Isolate, name: &Name, at: TypeAt) -> bool
     requires { IsType isolate.now at }
     ensures { result ≡ is_thrown_as (look_of isolate.now) name.now (Some (type_of isolate.now at)) }
 {
