@@ -5,7 +5,7 @@ use Rattle.mvm_isolate.specs.Look.{Look}
 use Rattle.mvm_isolate.specs.declared.stop.Stop.{Stop}
 use Rattle.mvm_monitor.specs.Waits.{longest}
 use Rattle.mvm_thread.specs.Attempt.{attempt}
-use Rattle.mvm_thread.specs.Going.{After, does, starts, notifies, acts, throws, ends_uncaught, exits, limited, Went, ready, ended}
+use Rattle.mvm_object.specs.Going.{After, does, starts, notifies, acts, ends_uncaught, exits, limited, Went, ready, ended}
 use Rattle.mvm_thread.specs.State.{State, Thread}
 use Rattle.mvm_thread.specs.Step.{all_ended, unless_over, wake, notified, all_notified, notified_by, after_attempt, uncaught_of, followed, counted, come_of, context_of, attempt_of, step_with}
 
@@ -57,7 +57,6 @@ followed_keeps number w s (does doing) = of_changed s (after_attempt number doin
 followed_keeps number w s (starts object) = record { bytes = refl; last = refl; launch = refl; closed = refl }
 followed_keeps number w s (notifies object all) = of_changed s (after_attempt number ready w s) _ (record { bytes = refl; last = refl; launch = refl; closed = refl }) (by_keeps all object (after_attempt number ready w s))
 followed_keeps number w s (acts act doing) = record { bytes = refl; last = refl; launch = refl; closed = refl }
-followed_keeps number w s (throws thrown) = record { bytes = refl; last = refl; launch = refl; closed = refl }
 followed_keeps number w s (ends_uncaught object) = of_changed s (died number object w s) _ (record { bytes = refl; last = refl; launch = refl; closed = refl }) (over_keeps (died number object w s))
 followed_keeps number w s (exits status) = record { bytes = refl; last = refl; launch = refl; closed = refl }
 followed_keeps number w s (limited kind) = record { bytes = refl; last = refl; launch = refl; closed = refl }

@@ -9,7 +9,7 @@ use Rattle.mvm_mirror.proofs.Changed.{get_set_other}
 use Rattle.mvm_monitor.specs.Waits.{longest}
 use Rattle.mvm_thread.specs.Attempt.{attempt}
 use Rattle.mvm_current.specs.Frames.{bare_frame, starting}
-use Rattle.mvm_thread.specs.Going.{Doing, ready, entering, waiting, initing, joining, sending, receiving, asking, ended, After, does, starts, notifies, acts, throws, ends_uncaught, exits, limited, Went}
+use Rattle.mvm_object.specs.Going.{Doing, ready, entering, waiting, initing, joining, sending, receiving, asking, ended, After, does, starts, notifies, acts, ends_uncaught, exits, limited, Went}
 use Rattle.mvm_thread.specs.State.{State, Thread, is_outside}
 use Rattle.mvm_thread.specs.Step.{all_ended, unless_over, wake, wake_in, wake_on, awake, awake_on, notified, all_notified, notified_by, thread_started, after_attempt, uncaught_of, followed, counted, come_of, context_of, attempt_of, step_with}
 
@@ -159,7 +159,6 @@ followed_leaves number w s (does doing) = kept_leaves number s _ (then_keeps num
 followed_leaves number w s (starts object) = begun_leaves number object w s
 followed_leaves number w s (notifies object all) = kept_leaves number s _ (then_keeps number s (after_attempt number ready w s) _ (after_keeps number ready w s) (by_keeps number all object (after_attempt number ready w s)))
 followed_leaves number w s (acts act doing) = kept_leaves number s _ (then_keeps number s (after_attempt number doing w s) _ (after_keeps number doing w s) (equal_keeps number (after_attempt number doing w s) _ refl))
-followed_leaves number w s (throws thrown) = kept_leaves number s _ (after_keeps number ready w s)
 followed_leaves number w s (ends_uncaught object) =
     kept_leaves number s _ (then_keeps number s (died number object w s) _
     (then_keeps number s (after_attempt number ended w s) _ (after_keeps number ended w s) (equal_keeps number (after_attempt number ended w s) _ refl))

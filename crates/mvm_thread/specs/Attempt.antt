@@ -1,18 +1,15 @@
 -- One attempt of one thread, with what it throws (JVM Specification 2.10, 2.11).
-use Rattle.std.specs.Prelude.{ℕ, zero, suc, List, [], ◌∷◌, Option, Some, None, Result, Ok, Err}
+use Rattle.std.specs.Prelude.{ℕ, List, [], ◌∷◌, ◌==◌, if◌then◌else◌, Result, Ok, Err}
 use Rattle.mvm_base.specs.Answers.{◌>>=◌}
-use Rattle.mvm_native.specs.declared.out.Thrown.{Thrown}
-use Rattle.mvm_native.specs.declared.out.Thrown.TheVariants.{OutOfMemoryError}
 use Rattle.mvm_isolate.specs.Isolate.{Isolate}
 use Rattle.mvm_isolate.specs.declared.stop.Stop.{Stop}
-use Rattle.mvm_isolate.specs.declared.stop.Stop.TheVariants.{Throw}
 use Rattle.mvm_current.specs.Frames.{Runs, method, starting, initialising, Frame}
-use Rattle.mvm_thread.specs.Going.{Doing, ready, entering, waiting, initing, joining, sending, receiving, asking, ended, Context, Point, Went, After, does, starts, notifies, acts, throws, ends_uncaught, exits, limited, going_on, stays, in_isolate}
+use Rattle.mvm_object.specs.Going.{Doing, ready, entering, waiting, initing, joining, sending, receiving, asking, ended, Context, Point, Went, After, does, ends_uncaught, going_on, stays, in_isolate}
 use Rattle.mvm_thread.specs.Instructions.{instruction}
-use Rattle.mvm_thread.specs.Monitors.{monitor_taken}
+use Rattle.mvm_locking.specs.Monitors.{monitor_taken}
 use Rattle.mvm_current.specs.Code.{next_of}
 use Rattle.mvm_thread.specs.Starting.{start, initialise}
-use Rattle.mvm_thread.specs.Throwing.{Unwound, throw, throwing, or_words_missing}
+use Rattle.mvm_throwing.specs.Throwing.{Unwound, throw}
 
 -- ---- what is attempted
 
@@ -29,8 +26,8 @@ behind_call c p = next_of c.look p.frame >>= λ next. Ok (going_on c next p.fram
 -- that it gave up.
 unfoldable pub attempted : Context → Doing → Point → Result Went Stop
 attempted c ready p = for_frame c p.frame.runs p
-attempted c (entering object zero) p = for_frame c p.frame.runs p
-attempted c (entering object (suc n)) p = behind_call c (in_isolate (monitor_taken c.thread object (suc n) p.isolate) p)
+attempted c (entering object count) p =
+    if count == 0 then for_frame c p.frame.runs p else behind_call c (in_isolate (monitor_taken c.thread object count p.isolate) p)
 attempted c (initing class) p = for_frame c p.frame.runs p
 attempted c (joining thread) p = behind_call c p
 attempted c doing p = Ok (stays c doing p)
@@ -54,15 +51,13 @@ ended_or doing fs = does doing
 abbrev pub with_after : After → Went → Went
 with_after after w = record w { after = after }
 
--- what an attempt comes to; what it throws is thrown from the state before it, and so is object 0 where words are missing
-abbrev pub settled_by : Context → Isolate → List Frame → Went → After → Result Went Stop
-settled_by c s fs w (does doing) = Ok (with_after (ended_or doing w.frames) w)
-settled_by c s fs w (throws thrown) =
-    after_throw c (or_words_missing (throwing c.look c.thread (Throw thrown) w.isolate w.frames) (throwing c.look c.thread (Throw OutOfMemoryError) s fs))
-settled_by c s fs w after = Ok w
+abbrev pub settled_by : Went → After → Went
+settled_by w (does doing) = with_after (ended_or doing w.frames) w
+settled_by w after = w
 
+-- what an attempt comes to; what it throws is thrown from the state before it
 abbrev pub settled : Context → Isolate → List Frame → Result Went Stop → Result Went Stop
-settled c s fs (Ok w) = settled_by c s fs w w.after
+settled c s fs (Ok w) = Ok (settled_by w w.after)
 settled c s fs (Err why) = after_throw c (throw c.look c.thread why s fs)
 
 -- one attempt of a thread that does this, in an isolate, with these frames

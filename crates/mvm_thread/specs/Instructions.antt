@@ -12,13 +12,13 @@ use Rattle.mvm_local.specs.declared.fault.Fault.TheVariants.{Verify, Arithmetic}
 use Rattle.mvm_native.specs.declared.out.Thrown.TheVariants.{VerifyError, ArithmeticException}
 use Rattle.mvm_isolate.specs.Isolate.{stopped}
 use Rattle.mvm_isolate.specs.declared.stop.Stop.{Stop}
-use Rattle.mvm_thread.specs.Arrays.{load_item, store_item, array_length, make_numbers, make_references, make_arrays}
-use Rattle.mvm_thread.specs.Calls.{invoke_virtual, invoke_special, invoke_static, invoke_interface}
-use Rattle.mvm_thread.specs.Fields.{load_constant, get_static, put_static, get_field, put_field}
-use Rattle.mvm_thread.specs.Going.{Context, Point, Went, does, ready}
-use Rattle.mvm_thread.specs.Monitors.{monitor_enter, monitor_exit}
-use Rattle.mvm_thread.specs.Objects.{make_object, check_cast, instance_of, throw_object}
-use Rattle.mvm_thread.specs.Returns.{return_value}
+use Rattle.mvm_object.specs.Arrays.{load_item, store_item, array_length, make_numbers, make_references, make_arrays}
+use Rattle.mvm_invoke.specs.Calls.{invoke_virtual, invoke_special, invoke_static, invoke_interface}
+use Rattle.mvm_object.specs.Fields.{load_constant, get_static, put_static, get_field, put_field}
+use Rattle.mvm_object.specs.Going.{Context, Point, Went, does, ready}
+use Rattle.mvm_locking.specs.Monitors.{monitor_enter, monitor_exit}
+use Rattle.mvm_object.specs.Objects.{make_object, check_cast, instance_of, throw_object}
+use Rattle.mvm_locking.specs.Returns.{return_value}
 use Rattle.mvm_current.specs.Code.{code_of}
 use Rattle.mvm_thread.specs.Rows.{action_of}
 use Rattle.mvm_thread.specs.declared.action.Action.{Action}

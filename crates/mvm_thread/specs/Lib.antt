@@ -1,13 +1,3 @@
-pub mod Going
-pub mod Entries
-pub mod Fields
-pub mod Arrays
-pub mod Objects
-pub mod Monitors
-pub mod NativeCalls
-pub mod Calls
-pub mod Returns
-pub mod Throwing
 pub mod Starting
 pub mod Rows
 pub mod Instructions

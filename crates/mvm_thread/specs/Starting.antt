@@ -30,12 +30,12 @@ use Rattle.mvm_member.specs.Members.{MemberName, member_at, method_named}
 use Rattle.mvm_isolate.specs.Supers.{supers_of}
 use Rattle.mvm_isolate.specs.Types.{of_class, STRING}
 use Rattle.mvm_isolate.specs.declared.stop.Stop.{Stop}
-use Rattle.mvm_thread.specs.Calls.{without_code, receiver_class, selected_in}
-use Rattle.mvm_thread.specs.Entries.{once_initialised, by_begin, may_begin}
+use Rattle.mvm_invoke.specs.Calls.{without_code, receiver_class, selected_in}
+use Rattle.mvm_object.specs.Entries.{once_initialised, by_begin, may_begin}
 use Rattle.mvm_current.specs.Frames.{Runs, method, Frame, called_frame, at_place, if_room, LAST}
 use Rattle.mvm_initialise.specs.Arguments.{arguments_made}
-use Rattle.mvm_thread.specs.Going.{Context, Point, Went, does, throws, ready, in_isolate}
-use Rattle.mvm_thread.specs.Monitors.{once_entered}
+use Rattle.mvm_object.specs.Going.{Context, Point, Went, does, ready, in_isolate}
+use Rattle.mvm_locking.specs.Monitors.{once_entered}
 
 -- ---- the frame that takes the place of a start
 
@@ -70,12 +70,9 @@ main_of class =
 abbrev pub runs_main : MemberName → Runs
 runs_main m = method m.class m.name m.desc
 
--- a main without code is thrown for in the place of its frame, once its arguments were made
 abbrev pub main_started : Context → MemberName → Member → Option ℕ → Option Code → Point → Result Went Stop
 main_started c m main lock (Some code) p = arguments_made c.launch.args p.isolate >>= λ x. started c (runs_main m) lock code x.0 (in_isolate x.1 p)
-main_started c m main lock None p =
-    arguments_made c.launch.args p.isolate >>= λ x.
-    Ok (record { isolate = x.1; frames = p.callers; object = c.object; after = throws (without_code main) })
+main_started c m main lock None p = stopped (without_code main)
 
 abbrev pub main_locked : Context → MemberName → Member → Code → Point → ℕ × Isolate → Result Went Stop
 main_locked c m main code p x =
@@ -106,7 +103,7 @@ run_resolved class = or_no_method (method_found (codes "run") (codes "()V") clas
 abbrev pub run_selected : Context → ℕ → Isolate → Result MemberName Stop
 run_selected c object s =
     looked_up (c.look.class THREAD) >>= run_resolved >>= λ run.
-    receiver_class c object s >>= λ class. selected_in class (virtual_selection class run)
+    receiver_class c.look object s >>= λ class. selected_in class (virtual_selection class run)
 
 abbrev pub run_entered : Context → MemberName → Member → ℕ → Point → Option Code → Result Went Stop
 run_entered c m run object p (Some code) =

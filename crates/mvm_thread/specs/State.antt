@@ -17,8 +17,8 @@ use Rattle.mvm_native.specs.declared.out.Act.{Act}
 use Rattle.mvm_region.specs.declared.monitor.Monitor.{Monitor}
 use Rattle.mvm_isolate.specs.Isolate.{Isolate}
 use Rattle.mvm_current.specs.Frames.{Frame, starting, bare_frame}
-use Rattle.mvm_thread.specs.Going.{Doing, ready, entering, waiting, initing, joining, sending, receiving, asking, ended}
-use Rattle.mvm_thread.specs.Monitors.{is_free}
+use Rattle.mvm_object.specs.Going.{Doing, ready, entering, waiting, initing, joining, sending, receiving, asking, ended}
+use Rattle.mvm_locking.specs.Monitors.{is_free}
 use Rattle.mvm_isolate.specs.Monitors.{monitor_at}
 
 pub record Thread : Type 0 where

@@ -20,7 +20,7 @@ use Rattle.mvm_isolate.specs.Types.{ReferenceType, of_class, of_array}
 use Rattle.mvm_isolate.specs.declared.stop.Stop.{Stop}
 use Rattle.mvm_thread.specs.Attempt.{attempt}
 use Rattle.mvm_current.specs.Frames.{Frame, starting, bare_frame}
-use Rattle.mvm_thread.specs.Going.{Doing, ready, entering, waiting, ended, Context, Went, After, does, starts, notifies, acts, throws, ends_uncaught, exits, limited}
+use Rattle.mvm_object.specs.Going.{Doing, ready, entering, waiting, ended, Context, Went, After, does, starts, notifies, acts, ends_uncaught, exits, limited}
 use Rattle.mvm_thread.specs.State.{Thread, Uncaught, State, is_ended, has_ended, uses_from}
 
 -- ---- ends
@@ -118,8 +118,6 @@ followed number w s (does doing) = unless_over (after_attempt number doing w s)
 followed number w s (starts object) = thread_started object (after_attempt number ready w s)
 followed number w s (notifies object all) = notified_by all object (after_attempt number ready w s)
 followed number w s (acts act doing) = record (after_attempt number doing w s) { act = Some act }
--- no attempt leaves this: what is thrown so has been thrown
-followed number w s (throws thrown) = after_attempt number ready w s
 followed number w s (ends_uncaught object) =
     unless_over (record (after_attempt number ended w s) { uncaught = s.uncaught ++ uncaught_of number object w.isolate ∷ [] })
 followed number w s (exits status) = ended_by (Exit status) (after_attempt number ready w s)

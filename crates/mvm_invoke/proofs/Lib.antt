@@ -1,0 +1,12 @@
+pub mod Answering
+pub mod Beyond
+pub mod Calling
+pub mod Framing
+pub mod Invoking
+pub mod Kept
+pub mod Leaving
+pub mod Referring
+pub mod Room
+pub mod Suiting
+pub mod Telling
+pub mod Throwing

@@ -1,0 +1,4 @@
+pub mod NativeCalls
+pub mod Calls
+pub mod Found
+pub mod Leaving

@@ -1,0 +1,28 @@
+//! Step: calls of methods and of native methods (JVM Specification 2.6, 2.11.8, 6.5).
+//!
+//! To the layers above it promises: each of the four instructions that call does to an isolate and a thread exactly what its definition says by names,
+//! for every context of the thread, or the machine's own memory ran out. What may fail comes before anything changes: after an error the isolate by names
+//! and the stack are as before. A method with code gets a frame on its caller's; a native one is done at once, and [`After`] says what is left to be done.
+#![tactic(auto)]
+
+mod answers;
+mod caller;
+mod calls;
+mod frames;
+mod heads;
+mod left;
+mod native;
+mod passed;
+mod receivers;
+mod run;
+mod special_calls;
+mod static_calls;
+mod targets;
+mod virtual_calls;
+
+pub use heads::without_code;
+pub use left::{After, Left, Told};
+pub use run::run_selected;
+pub use special_calls::invoke_special;
+pub use static_calls::invoke_static;
+pub use virtual_calls::{invoke_interface, invoke_virtual};

@@ -1,0 +1,9 @@
+pub mod Storing
+pub mod Allotting
+pub mod Beginning
+pub mod Placing
+pub mod Points
+pub mod Streams
+pub mod Initialising
+pub mod Holding
+pub mod Lengths

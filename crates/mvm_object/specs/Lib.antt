@@ -1,0 +1,9 @@
+pub mod Going
+pub mod Coming
+pub mod Entries
+pub mod Beginning
+pub mod Fields
+pub mod Slots
+pub mod Arrays
+pub mod Objects
+pub mod Elements

@@ -1,0 +1,2 @@
+pub mod Throwing
+pub mod Unwinding
