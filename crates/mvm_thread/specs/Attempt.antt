@@ -8,7 +8,8 @@ use Rattle.mvm_object.specs.Going.{Doing, ready, entering, waiting, initing, joi
 use Rattle.mvm_thread.specs.Instructions.{instruction}
 use Rattle.mvm_locking.specs.Monitors.{monitor_taken}
 use Rattle.mvm_current.specs.Code.{next_of}
-use Rattle.mvm_thread.specs.Starting.{start, initialise}
+use Rattle.mvm_starting.specs.Initialising.{initialise}
+use Rattle.mvm_starting.specs.Starting.{start}
 use Rattle.mvm_throwing.specs.Throwing.{Unwound, throw}
 
 -- ---- what is attempted

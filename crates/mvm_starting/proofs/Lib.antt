@@ -1,0 +1,4 @@
+mod FramesEntered
+mod Supers
+pub mod Taking
+pub mod Beginning
