@@ -1,12 +1,14 @@
 -- Where nothing stands in the way of a command, no answer is a refusal.
-use Rattle.std.proofs.Common.{◌≡◌, ℕ, ◌<◌, List, length, subst, inl, inr}
-use Rattle.std.specs.Prelude.{IfSome, Ok, Err}
+use Rattle.std.proofs.Common.{◌≡◌, ℕ, ◌<◌, List, length, subst, sym, ◌∙◌, ap, inl, inr}
+use Rattle.std.specs.Prelude.{IfSome, Ok, Err, true, false}
 use Rattle.std.proofs.Math.Nat.{not-le_of_lt}
+use Rattle.mvm_classfile.proofs.Answered.{one}
 use Rattle.mvm_layout.specs.declared.parts.Parts.{Parts}
 use Rattle.mvm_listing.specs.declared.fault.AsmFault.{AsmFault}
 use Rattle.mvm_listing.specs.Assembly.{class_of}
 use Rattle.mvm_outside.specs.declared.traits.TheConstants.{MOST_FILE_BYTES}
-use Rattle.mvm.specs.Commands.{Accepts, Refuses}
+use Rattle.mvm.specs.Alone.{runs_alone}
+use Rattle.mvm.specs.Commands.{Accepts, Refuses, IsRunnable, IsOther}
 use Rattle.mvm.specs.Launch.{Reading, Writing, HasRefused, AnswersTo, Answers, CanAnswer, IsNoRefusal}
 use Rattle.mvm.specs.declared.outcome.What.{What}
 use Rattle.mvm.specs.declared.outcome.What.TheVariants.{Ran, Made, Refused, OutOfMemory}
@@ -20,10 +22,17 @@ use Rattle.mvm.proofs.CommandNames.{one_command}
 unfaulty : (text : List ℕ) (parts : Parts) (fault : AsmFault) → class_of text ≡ Ok parts → ¬ (class_of text ≡ Err fault)
 unfaulty text parts fault ok err = absurd cc
 
+-- no bytes are a class file that runs alone and one that does not
+unlike : (bytes : List ℕ) (parts : Parts) → IsRunnable bytes parts → ¬ IsOther bytes
+unlike bytes parts runnable other =
+    let same = one bytes parts other.parts runnable.class_file.reads other.class_file.reads in
+    let both : true ≡ false = sym runnable.alone ∙ (ap runs_alone same ∙ other.other) in
+    absurd cc
+
 -- a command refuses no bytes that it accepts
 unrefused : (command : Command) (bytes : List ℕ) (refusal : Refusal) → Accepts command bytes → ¬ Refuses command bytes refusal
-unrefused Run bytes (Class fault) accepts (inl faulty) = faulty.unread accepts.1.parts accepts.1.class_file.reads
-unrefused Run bytes (Class fault) accepts (inr other) = other.1.other accepts.0 accepts.1.spelled
+unrefused Run bytes (Class fault) accepts (inl faulty) = faulty.unread accepts.0 accepts.1.class_file.reads
+unrefused Run bytes (Class fault) accepts (inr other) = unlike bytes accepts.0 accepts.1 other.1
 unrefused Run bytes Usage accepts refuses = refuses
 unrefused Run bytes ReadFault accepts refuses = refuses
 unrefused Run bytes InputTooLong accepts refuses = refuses

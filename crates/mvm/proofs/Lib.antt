@@ -3,3 +3,5 @@ pub mod Faults
 pub mod CommandNames
 pub mod Written
 pub mod Complete
+pub mod Locking
+pub mod Attempts

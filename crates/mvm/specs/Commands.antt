@@ -1,18 +1,18 @@
 -- What each command makes of the bytes that it reads, and why it refuses them.
-use Rattle.std.specs.Prelude.{◌≡◌, ◌≢◌, ℕ, ◌⊎◌, List, [], ◌∷◌, Some, Ok, Err, ⊤}
+use Rattle.std.specs.Prelude.{◌≡◌, ◌≢◌, ℕ, ◌⊎◌, List, [], ◌∷◌, Some, Ok, Err, true, false, ⊤}
 use Rattle.mvm_layout.specs.declared.fault.ClassFault.{ClassFault}
 use Rattle.mvm_layout.specs.declared.fault.ClassFault.TheVariants as class_fault
+use Rattle.mvm_layout.specs.Pool.{class_name}
 use Rattle.mvm_layout.specs.declared.parts.Parts.{Parts}
 use Rattle.mvm_classfile.specs.Reading.{Reads, fault_of}
 use Rattle.mvm_classfile.specs.Writing.{written}
 use Rattle.mvm_listing.specs.declared.fault.AsmFault.TheVariants as asm_fault
 use Rattle.mvm_listing.specs.Assembly.{class_of}
 use Rattle.mvm_listing.specs.Disassembly.{disassembly}
-use Rattle.mvm_first_form.specs.File.{IsFirstForm}
-use Rattle.mvm_first_form.specs.declared.parts.FirstForm.{FirstForm}
-use Rattle.mvm_interp.specs.Run.{RunsTo}
-use Rattle.mvm_interp.specs.declared.block.Block.{Block}
+use Rattle.mvm.specs.Alone.{runs_alone}
 use Rattle.mvm.specs.Report.{report_text}
+use Rattle.mvm.specs.Running.{RunsTo}
+use Rattle.mvm.specs.declared.outcome.Block.{Block}
 use Rattle.mvm.specs.declared.outcome.Outcome.{Outcome}
 use Rattle.mvm.specs.declared.outcome.What.{What}
 use Rattle.mvm.specs.declared.outcome.What.TheVariants.{Ran, Made}
@@ -33,31 +33,32 @@ pub record IsFaulty (bytes : List ℕ) (fault : ClassFault) : Type 0 where
   pub told : fault_of bytes ≡ Some fault
   pub unread : (parts : Parts) → ¬ Reads bytes parts
 
--- the bytes are a class file of the first form, which this stage can run
-pub record IsRunnable (bytes : List ℕ) (form : FirstForm) : Type 0 where
+-- the bytes are a class file that runs alone
+pub record IsRunnable (bytes : List ℕ) (parts : Parts) : Type 0 where
+  pub class_file : IsClassFile bytes parts
+  pub alone : runs_alone parts ≡ true
+
+-- the bytes are a class file that does not run alone
+pub record IsOther (bytes : List ℕ) : Type 0 where
   pub parts : Parts
   pub class_file : IsClassFile bytes parts
-  pub spelled : IsFirstForm bytes form
+  pub other : runs_alone parts ≡ false
 
--- the bytes are a class file, and not one of the first form
-pub record IsOtherForm (bytes : List ℕ) : Type 0 where
-  pub parts : Parts
-  pub class_file : IsClassFile bytes parts
-  pub other : (form : FirstForm) → ¬ IsFirstForm bytes form
-
--- the bytes are a class file of the first form, and this is what the machine of its class leaves
+-- the bytes are a class file, and this is what is left of its run
 pub record RunsBytes (bytes : List ℕ) (outcome : Outcome) : Type 0 where
-  pub form : FirstForm
-  pub runnable : IsRunnable bytes form
+  pub parts : Parts
+  pub runnable : IsRunnable bytes parts
+  pub name : List ℕ
+  pub is_name : class_name parts.pool parts.this_class ≡ Some name
   pub block : Block
-  pub run : RunsTo form block
+  pub run : RunsTo name bytes block
   pub only : outcome.isolates ≡ block ∷ []
 
 -- ---- commands
 
 -- the bytes are what the command asks for: a class file that can be run, the text of a class file, or a class file
 abbrev pub Accepts : Command → List ℕ → Type 0
-Accepts Run bytes = (form : FirstForm) × IsRunnable bytes form
+Accepts Run bytes = (parts : Parts) × IsRunnable bytes parts
 Accepts Assemble bytes = (parts : Parts) × (class_of bytes ≡ Ok parts)
 Accepts Disassemble bytes = (parts : Parts) × IsClassFile bytes parts
 
@@ -68,9 +69,9 @@ Makes Assemble bytes Made output = (parts : Parts) × (class_of bytes ≡ Ok par
 Makes Disassemble bytes Made output = (parts : Parts) × IsClassFile bytes parts × (output ≡ disassembly parts)
 Makes _ bytes what output = ⊥
 
--- why a run refuses the bytes: they have this fault, or they are a class file that this stage can't run
+-- why a run refuses the bytes: they have this fault, or they are a class file that does not run alone
 abbrev pub IsUnfitToRun : List ℕ → ClassFault → Type 0
-IsUnfitToRun bytes fault = IsFaulty bytes fault ⊎ ((fault ≡ class_fault.Unsupported 0) × IsOtherForm bytes)
+IsUnfitToRun bytes fault = IsFaulty bytes fault ⊎ ((fault ≡ class_fault.Unsupported 0) × IsOther bytes)
 
 -- why a command refuses the bytes
 abbrev pub Refuses : Command → List ℕ → Refusal → Type 0

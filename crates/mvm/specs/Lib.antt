@@ -1,4 +1,6 @@
 pub mod Texts
+pub mod Alone
+pub mod Running
 pub mod Status
 pub mod Report
 pub mod Refusals

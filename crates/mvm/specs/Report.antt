@@ -5,20 +5,27 @@ use Rattle.std.specs.Fmt.{signed_decimal}
 use Rattle.mvm.specs.Texts.{shown, line}
 use Rattle.mvm.specs.Status.{run_status}
 use Rattle.mvm.specs.declared.outcome.Outcome.{Outcome}
-use Rattle.mvm_interp.specs.declared.block.Block.{Block}
+use Rattle.mvm_history.specs.declared.end.End.{End}
+use Rattle.mvm_history.specs.declared.end.End.TheVariants.{Exit, Limit, Halted, Stalled, NeverStarted}
+use Rattle.mvm_history.specs.declared.end.LimitKind.{LimitKind}
+use Rattle.mvm_history.specs.declared.end.LimitKind.TheVariants.{Steps, Threads, Output, Log, Clock, Messages}
 use Rattle.mvm_interp.specs.declared.block.Uncaught.{Uncaught}
-use Rattle.mvm_interp.specs.declared.ending.End.{End}
-use Rattle.mvm_interp.specs.declared.ending.End.TheVariants.{Exit, Limit}
-use Rattle.mvm_interp.specs.declared.ending.LimitKind.{LimitKind}
-use Rattle.mvm_interp.specs.declared.ending.LimitKind.TheVariants.{Steps, Output}
+use Rattle.mvm.specs.declared.outcome.Block.{Block}
 
 abbrev pub limit_name : LimitKind → List ℕ
 limit_name Steps = codes "steps"
+limit_name Threads = codes "threads"
 limit_name Output = codes "output"
+limit_name Log = codes "log"
+limit_name Clock = codes "clock"
+limit_name Messages = codes "messages"
 
 abbrev pub end_text : End → List ℕ
 end_text (Exit code) = codes "exit " ++ signed_decimal code
 end_text (Limit kind) = codes "limit " ++ limit_name kind
+end_text (Halted by status) = codes "halted by " ++ decimal by ++ codes " status " ++ signed_decimal status
+end_text Stalled = codes "stalled"
+end_text NeverStarted = codes "never started"
 
 -- nothing, or what stands between the class of an exception and the end of its line
 abbrev pub message_text : Option (List ℕ) → List ℕ

@@ -7,12 +7,12 @@ use Rattle.mvm.specs.declared.outcome.What.{What}
 use Rattle.mvm.specs.declared.outcome.What.TheVariants.{Ran, Made, Refused, OutOfMemory}
 use Rattle.mvm.specs.declared.refusal.Refusal.{Refusal}
 use Rattle.mvm.specs.declared.refusal.Refusal.TheVariants.{Usage, ReadFault, InputTooLong, Class, Assembly, WriteFault}
-use Rattle.mvm_interp.specs.declared.ending.End.{End}
-use Rattle.mvm_interp.specs.declared.ending.End.TheVariants.{Exit, Limit}
+use Rattle.mvm_history.specs.declared.end.End.{End}
+use Rattle.mvm_history.specs.declared.end.End.TheVariants.{Exit}
 
 abbrev pub is_success : End → Bool
 is_success (Exit code) = int_eq code (pos 0)
-is_success (Limit kind) = false
+is_success _ = false
 
 -- 0 where each isolate ended with exit 0, else 1
 abbrev pub run_status : Outcome → ℕ

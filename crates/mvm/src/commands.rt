@@ -1,20 +1,21 @@
 ghost use Rattle.std.specs.Prelude.{◌≡◌, ◌≢◌, ◌<◌, ◌^◌, [], ◌∷◌, length, IfOk, IfErr};
 ghost use Rattle.mvm_layout.specs.declared.fault.ClassFault.TheVariants as class_fault;
-ghost use Rattle.mvm_interp.specs.Run.{RunsTo};
-ghost use Rattle.mvm_interp.specs.declared.block.Block.{Block};
 ghost use Rattle.mvm.specs.Commands.{IsClassFile, IsFaulty, IsRunnable, IsUnfitToRun, RunsBytes};
+ghost use Rattle.mvm.specs.Running.{RunsTo};
+ghost use Rattle.mvm.specs.declared.outcome.Block.{Block};
 ghost use Rattle.mvm.specs.Launch.{Reading, writing, HasRead, HasMade, AnswersTo, HasOutput};
 ghost use Rattle.mvm.specs.declared.words.Command.{Command};
 ghost use Rattle.mvm.specs.declared.words.Command.TheVariants as commands;
 
+use crate::alone::runs_alone;
 use crate::outcome::{Outcome, What};
 use crate::refusal::Refusal;
 use crate::report::report;
+use crate::single::run;
 use mvm_asm::{AsmFault, assemble, disassemble};
-use mvm_base::{List, OutOfMemory};
+use mvm_base::{List, Name, OutOfMemory};
 use mvm_classfile::{ClassFault, ClassFile, read_uncounted, write_class};
-use mvm_first_form::{FirstForm, read_first_form};
-use mvm_interp::run;
+use mvm_layout::pool::class_name;
 use mvm_outside::{Sink, write_all};
 use std::alloc::Global;
 
@@ -95,28 +96,43 @@ fn read_file(alloc: Global, bytes: &[u8]) -> Result<ClassFile, ClassFault>
     read_uncounted(alloc, bytes)
 }
 
-/// The class of the bytes, if they are a class file that the machine of this stage can run.
-fn read_runnable(alloc: Global, bytes: &[u8]) -> Result<FirstForm, ClassFault>
+/// The class file that the bytes are, if it runs alone.
+fn read_runnable(alloc: Global, bytes: &[u8]) -> Result<ClassFile, ClassFault>
     requires { length bytes.now < 2 ^ 32 }
     ensures ok { IfOk result (IsRunnable bytes.now) }
     ensures err { IfErr result (λ fault. fault ≢ class_fault.OutOfMemory → IsUnfitToRun bytes.now fault) }
 {
-    let _class = read_file(alloc, bytes)?;
-    match read_first_form(alloc, bytes) {
-        Ok(Some(form)) => Ok(form),
-        Ok(None) => Err(ClassFault::Unsupported(0)),
-        Err(OutOfMemory) => Err(ClassFault::OutOfMemory),
+    let class = read_file(alloc, bytes)?;
+    if runs_alone(&class) {
+        Ok(class)
+    } else {
+        Err(ClassFault::Unsupported(0))
     }
 }
 
-/// What is left of the one isolate that runs the class.
-fn outcome_of(alloc: Global, form: FirstForm) -> Result<Outcome, OutOfMemory>
-    ensures { IfOk result (λ outcome. (block : Block) × RunsTo form block × (outcome.isolates ≡ block ∷ [])) }
+/// What is left of the one isolate that runs a class file of this name.
+fn outcome_of(alloc: Global, name: &Name, bytes: &[u8]) -> Result<Outcome, OutOfMemory>
+    requires { length bytes.now < 2 ^ 32 }
+    ensures { IfOk result (λ outcome. (block : Block) × RunsTo name.now bytes.now block × (outcome.isolates ≡ block ∷ [])) }
 {
-    let block = run(alloc, form)?;
+    let block = run(alloc, name, bytes)?;
     let mut isolates = List::new(alloc);
     isolates.push(block)?;
     Ok(Outcome { isolates })
+}
+
+/// What a run of the class file leaves.
+#[tactic(auto, unfolding(crate::specs::Alone::runs_alone))]
+fn run_file(alloc: Global, class: &ClassFile, bytes: &[u8]) -> Result<Outcome, OutOfMemory>
+    requires short { length bytes.now < 2 ^ 32 }
+    requires alone { IsRunnable bytes.now class.now }
+    ensures { IfOk result (RunsBytes bytes.now) }
+{
+    let parts = class.parts();
+    match class_name(&parts.pool, parts.this_class) {
+        Some(name) => outcome_of(alloc, name, bytes),
+        None => unreachable!(),
+    }
 }
 
 /// What a run of the class file leaves, or why the bytes can't be run.
@@ -125,8 +141,8 @@ fn run_bytes(alloc: Global, bytes: &[u8]) -> Result<Outcome, ClassFault>
     ensures ok { IfOk result (RunsBytes bytes.now) }
     ensures err { IfErr result (λ fault. fault ≢ class_fault.OutOfMemory → IsUnfitToRun bytes.now fault) }
 {
-    let form = read_runnable(alloc, bytes)?;
-    match outcome_of(alloc, form) {
+    let class = read_runnable(alloc, bytes)?;
+    match run_file(alloc, &class, bytes) {
         Ok(outcome) => Ok(outcome),
         Err(OutOfMemory) => Err(ClassFault::OutOfMemory),
     }

@@ -48,7 +48,7 @@ fn answer<S: Source, K: Sink>(alloc: Global, words: &[String], script: &mut S, o
 /// `out`, assembled whole before its first byte:
 ///
 /// - `run` reads a class file, runs its `main` as isolate 0 with the limits that every isolate has by default, and writes the
-///   report. A class file that is not of the first form is refused as unsupported: this stage can't run it yet.
+///   report. A class file that does not run alone is refused as unsupported: this stage can't run it yet.
 /// - `asm` reads the text of a class file, and writes the class file.
 /// - `dump` reads a class file, and writes its text.
 ///

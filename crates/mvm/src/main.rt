@@ -5,10 +5,9 @@
 //! refusal reads as on standard error, and ends with the status. What `launch` promises stands at it.
 #![tactic(auto)]
 
+mod alone;
 #[cfg(test)]
 mod assembly_rows;
-#[cfg(test)]
-mod attempts;
 mod commands;
 #[cfg(test)]
 mod files;
@@ -16,6 +15,9 @@ mod launch;
 mod outcome;
 mod refusal;
 mod report;
+mod single;
+#[cfg(test)]
+mod single_rows;
 #[cfg(test)]
 mod tests;
 mod texts;

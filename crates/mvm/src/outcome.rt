@@ -3,8 +3,22 @@ ghost use Rattle.std.specs.List.{list_all};
 ghost use Rattle.mvm.specs.Status.{is_success, run_status, status_of, refusal_status};
 
 use crate::refusal::Refusal;
-use mvm_base::List;
-use mvm_interp::{Block, End};
+use mvm_base::{Line, List, Name};
+use mvm_history::End;
+use mvm_interp::Uncaught;
+
+/// What is left of an isolate that has ended.
+#[derive(Debug, Drop)]
+pub struct Block {
+    /// The name of the class whose `main` was run.
+    pub main: Name,
+    /// All that was printed.
+    pub output: Line,
+    /// The exceptions that nothing caught, in the order in which they came.
+    pub uncaught: List<Uncaught>,
+    /// How the isolate ended.
+    pub end: End,
+}
 
 /// What is left of a run: a block for each isolate, in order of their numbers.
 #[derive(Debug, Drop)]
@@ -82,7 +96,7 @@ fn is_success(end: &End) -> bool
 {
     match end {
         End::Exit(code) => *code == 0,
-        End::Limit(_) => false,
+        End::Limit(_) | End::Halted { .. } | End::Stalled | End::NeverStarted => false,
     }
 }
 

@@ -1,12 +1,14 @@
 ghost use Rattle.std.specs.Prelude.{◌≡◌, ◌++◌, length, codes, decimal, OnOk, IfOk};
+ghost use Rattle.std.specs.Fmt.{signed_decimal};
 ghost use Rattle.std.specs.List.{flat_map};
 ghost use Rattle.mvm.specs.Texts.{line, shown};
-ghost use Rattle.mvm.specs.Report.{end_text, message_text, uncaught_text, closed, block_text, block_texts, report_text};
+ghost use Rattle.mvm.specs.Report.{end_text, limit_name, message_text, uncaught_text, closed, block_text, block_texts, report_text};
 
-use crate::outcome::{Outcome, run_status};
+use crate::outcome::{Block, Outcome, run_status};
 use crate::texts::{push_number, push_signed, push_units};
 use mvm_base::{Line, Name, OutOfMemory};
-use mvm_interp::{Block, End, LimitKind, Uncaught};
+use mvm_history::{End, LimitKind};
+use mvm_interp::Uncaught;
 use std::alloc::{AllocError, Global};
 
 /// The report of a run: the lines of each isolate, and a line with the status.
@@ -74,6 +76,29 @@ fn push_end(text: &mut Line, end: &End) -> Result<(), AllocError>
     text.push_str("\n")
 }
 
+fn limit_name(kind: LimitKind) -> &'static str
+    ensures { result.now ≡ limit_name kind }
+{
+    match kind {
+        LimitKind::Steps => "steps",
+        LimitKind::Threads => "threads",
+        LimitKind::Output => "output",
+        LimitKind::Log => "log",
+        LimitKind::Clock => "clock",
+        LimitKind::Messages => "messages",
+    }
+}
+
+// Adds how an isolate was halted.
+fn push_halted(text: &mut Line, by: u32, status: i32) -> Result<(), AllocError>
+    ensures ok { OnOk result (text.new ≡ text.old ++ codes "halted by " ++ decimal by ++ codes " status " ++ signed_decimal status) }
+{
+    text.push_str("halted by ")?;
+    push_number(text, u64::from(by))?;
+    text.push_str(" status ")?;
+    push_signed(text, status)
+}
+
 // Adds how an isolate ended.
 fn push_end_kind(text: &mut Line, end: &End) -> Result<(), AllocError>
     ensures ok { OnOk result (text.new ≡ text.old ++ end_text end.now) }
@@ -83,8 +108,13 @@ fn push_end_kind(text: &mut Line, end: &End) -> Result<(), AllocError>
             text.push_str("exit ")?;
             push_signed(text, *code)
         }
-        End::Limit(LimitKind::Steps) => text.push_str("limit steps"),
-        End::Limit(LimitKind::Output) => text.push_str("limit output"),
+        End::Limit(kind) => {
+            text.push_str("limit ")?;
+            text.push_str(limit_name(*kind))
+        }
+        End::Halted { by, status } => push_halted(text, *by, *status),
+        End::Stalled => text.push_str("stalled"),
+        End::NeverStarted => text.push_str("never started"),
     }
 }
 

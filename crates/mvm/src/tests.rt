@@ -1,11 +1,26 @@
-use crate::outcome::Outcome;
+use crate::outcome::{Block, Outcome};
 use crate::refusal::{Refusal, refusal_text};
 use crate::report::report;
 use mvm_base::{Line, List, Name};
 use mvm_classfile::ClassFault;
-use mvm_interp::{Block, End, LimitKind, Uncaught};
+use mvm_history::{End, LimitKind};
+use mvm_interp::Uncaught;
 use std::alloc::{AllocError, Global};
 use std::test::Fail;
+
+// How an isolate ended, and how that reads.
+const ENDS: [(End, &str); 10] = [
+    (End::Exit(-2147483648), "exit -2147483648"),
+    (End::Limit(LimitKind::Steps), "limit steps"),
+    (End::Limit(LimitKind::Threads), "limit threads"),
+    (End::Limit(LimitKind::Output), "limit output"),
+    (End::Limit(LimitKind::Log), "limit log"),
+    (End::Limit(LimitKind::Clock), "limit clock"),
+    (End::Limit(LimitKind::Messages), "limit messages"),
+    (End::Halted { by: 2, status: -3 }, "halted by 2 status -3"),
+    (End::Stalled, "stalled"),
+    (End::NeverStarted, "never started"),
+];
 
 // An isolate with one exception, or with none where that has no class.
 fn block(
@@ -80,6 +95,19 @@ fn reports_isolates(rt: HostRuntime) -> Result<(), Fail> {
         two.as_str(),
         "isolate 0 ??\u{1f600} ?é?\nend exit 0\nuncaught 0 C: m\noutput 2\nx\nisolate 1 Main\nend exit 0\noutput 1\n\ndone 0\n"
     );
+    Ok(())
+}
+
+#[test]
+fn reports_ends(rt: HostRuntime) -> Result<(), Fail> {
+    for (end, told) in ENDS {
+        let ended = block(rt.alloc(), &[77], "", None, "", end)?;
+        let ended = reported(rt.alloc(), ended, None)?;
+        let mut expected = String::from_str(rt.alloc(), "isolate 0 M\nend ")?;
+        expected.push_str(told)?;
+        expected.push_str("\noutput 0\ndone 1\n")?;
+        assert_eq!(rt; ended.as_str(), expected.as_str());
+    }
     Ok(())
 }
 

@@ -54,7 +54,7 @@ fn push_character(text: &mut Line, character: Option<char>) -> Result<(), AllocE
 
 // The first character, unless that is a surrogate without a partner, and how many units it has.
 #[tactic(auto, using(crate::proofs::Characters::chars_of_one, crate::proofs::Characters::chars_alone, crate::proofs::Characters::chars_paired))]
-fn first_character(units: &[u16]) -> (Option<char>, usize)
+pub(crate) fn first_character(units: &[u16]) -> (Option<char>, usize)
     requires { 0 < length units.now }
     ensures first { utf16_chars units.now ≡ result.0 ∷ utf16_chars (drop result.1 units.now) }
     ensures some { 0 < result.1 }

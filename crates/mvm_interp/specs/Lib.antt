@@ -1,5 +1,6 @@
-pub mod Ends
-pub mod Stack
-pub mod Machine
-pub mod Task
-pub mod Run
+pub mod Names
+pub mod Sound
+pub mod Finishing
+pub mod Waking
+pub mod Linking
+pub mod Opening

@@ -1,5 +1,4 @@
-use crate::ending::End;
-use mvm_base::{Line, List, Name};
+use mvm_base::Name;
 
 /// An exception that nothing caught.
 #[derive(Debug, Drop)]
@@ -10,17 +9,4 @@ pub struct Uncaught {
     pub class: Name,
     /// Its message, if it has one.
     pub message: Option<Name>,
-}
-
-/// What is left of an isolate that has ended.
-#[derive(Debug, Drop)]
-pub struct Block {
-    /// The name of the class whose `main` was run.
-    pub main: Name,
-    /// All that was printed.
-    pub output: Line,
-    /// The exceptions that nothing caught, in the order in which they came.
-    pub uncaught: List<Uncaught>,
-    /// How the isolate ended.
-    pub end: End,
 }

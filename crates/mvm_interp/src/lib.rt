@@ -1,21 +1,27 @@
-//! Step: one class file as one isolate on one thread, with its start, its bytecode one instruction at a time, and its end.
+//! Step: an isolate with its threads, one step at a time, from its launch to its end (JVM Specification 2.5).
 //!
-//! To the layer above it promises: what [`OneTask::step`] leaves of a task is what the machine of `specs/Machine.antt`
-//! gives, in every case; it takes no memory and is never refused; its work grows neither with the code nor with the
-//! output. [`OneTask::finish`] gives the output, the uncaught exceptions and the end of that machine's state.
+//! To the layer above it promises: what [`TaskState::step`] leaves of a task is by names what the definition of a step gives of it, or the
+//! machine's own memory ran out, and then by names nothing has changed. [`open_task`] gives the state of an isolate that has done nothing, and
+//! [`TaskState::finished`] what an isolate printed and what nothing caught in it.
 #![tactic(auto)]
 
-mod attempts;
+mod attempted;
 mod block;
-mod ending;
-mod execute;
-mod frame;
-mod operands;
-mod output;
-mod task;
+mod closing;
+mod finishing;
+mod linking;
+mod open;
+mod row;
+mod rows;
+mod starting;
+mod step;
+mod stepped;
+mod task_state;
+mod uncaught;
+mod unread;
 
-pub use attempts::run;
-pub use block::{Block, Uncaught};
-pub use ending::{End, LimitKind, Stepped};
-pub use output::OUTPUT_LIMIT;
-pub use task::{OneTask, START_ATTEMPTS, STEP_LIMIT};
+pub use block::Uncaught;
+pub use closing::Finished;
+pub use open::{open_task, open_task_in};
+pub use stepped::Stepped;
+pub use task_state::TaskState;

@@ -6,11 +6,11 @@ use crate::left::{After, Left, Told};
 
 /// Who calls.
 #[derive(Clone, Copy, Debug, PartialEq, Eq)]
-pub(crate) struct Caller {
+pub struct Caller {
     /// What its thread is told.
-    pub(crate) told: Told,
+    pub told: Told,
     /// The place behind the call.
-    pub(crate) next: u32,
+    pub next: u32,
 }
 
 /// The thread has the object that it has, and this is left to be done.

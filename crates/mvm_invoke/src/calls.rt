@@ -147,7 +147,7 @@ pub(crate) fn called<L: Ledger>(
 }
 
 /// The same of a method that was found.
-pub(crate) fn called_at<L: Ledger>(
+pub fn called_at<L: Ledger>(
     isolate: &mut Isolate,
     table: &Table,
     stack: &mut Stack,

@@ -49,7 +49,7 @@ fn wider(locals: u16, slots: u16) -> u16
 }
 
 /// The frame of a method with code stands on the caller, with its arguments. There is room for it.
-fn framed(stack: &mut Stack, told: Told, key: FrameKey, size: Size, slots: u16) -> Left
+pub fn framed(stack: &mut Stack, told: Told, key: FrameKey, size: Size, slots: u16) -> Left
     requires frame { IsSome stack.old.rest.below.key }
     requires method { key.method ≢ NO_METHOD }
     requires slots { slots ≤ length stack.old.operands.slots }

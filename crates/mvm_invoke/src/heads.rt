@@ -12,20 +12,20 @@ use mvm_native::Thrown;
 
 /// How many local variables and operands a method's code has.
 #[derive(Clone, Copy, Debug, PartialEq, Eq)]
-pub(crate) struct Size {
+pub struct Size {
     /// How many local variables.
-    pub(crate) locals: u16,
+    pub locals: u16,
     /// How deep its operand stack is.
-    pub(crate) depth: u16,
+    pub depth: u16,
 }
 
 /// What a call looks at of a method.
 #[derive(Clone, Copy, Debug, PartialEq, Eq)]
-pub(crate) struct Head {
+pub struct Head {
     /// Its access flags.
-    pub(crate) flags: u16,
+    pub flags: u16,
     /// What its code has, if it has code.
-    pub(crate) size: Option<Size>,
+    pub size: Option<Size>,
 }
 
 fn size_of(code: &Code) -> Size
@@ -55,7 +55,7 @@ fn head_of(method: &Member) -> Head
 ///
 /// A `VerifyError` where it declares none.
 #[tactic(auto, unfolding(crate::specs::Calls::head_in, mvm_isolate::specs::Members::method_in))]
-pub(crate) fn head_in(isolate: &Isolate, mirror: u32, member: &MemberName<'_>) -> Result<Head, Stop>
+pub fn head_in(isolate: &Isolate, mirror: u32, member: &MemberName<'_>) -> Result<Head, Stop>
     requires class { IsClass isolate.now mirror }
     requires name { name_at isolate.now mirror ≡ member.now.class }
     ensures { result ≡ head_in (look_of isolate.now) member.now }
@@ -67,7 +67,7 @@ pub(crate) fn head_in(isolate: &Isolate, mirror: u32, member: &MemberName<'_>) -
 }
 
 /// What is thrown for a method of these flags that has no code.
-pub(crate) fn thrown_without_code(flags: u16) -> Thrown
+pub fn thrown_without_code(flags: u16) -> Thrown
     ensures { result ≡ thrown_without_code flags }
 {
     if has_flag(ABSTRACT, flags) {

@@ -12,13 +12,13 @@ use std::alloc::Global;
 
 /// What a call passes.
 #[derive(Debug, Drop)]
-pub(crate) struct Passed {
+pub struct Passed {
     /// The parameters and the result of the method, by its descriptor.
-    pub(crate) shape: MethodShape,
+    pub shape: MethodShape,
     /// A receiver, if there is one, and then the values of the parameters.
-    pub(crate) arguments: List<Word>,
+    pub arguments: List<Word>,
     /// How many slots of the operands they take.
-    pub(crate) slots: u16,
+    pub slots: u16,
 }
 
 /// The arguments of a call by a descriptor, on top of the operands. They stay there.

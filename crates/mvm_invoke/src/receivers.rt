@@ -21,11 +21,11 @@ use mvm_set::{Class, Found, LinkFault, MethodAt, Shared};
 
 /// What a call with a receiver passes.
 #[derive(Debug, Drop)]
-pub(crate) struct Received {
+pub struct Received {
     /// The arguments, of which the first is the receiver.
-    pub(crate) passes: Passed,
+    pub passes: Passed,
     /// The object of the receiver.
-    pub(crate) receiver: u32,
+    pub receiver: u32,
 }
 
 /// Whether the receiver is an instance of a class.
@@ -83,7 +83,7 @@ pub(crate) fn received_by(
 }
 
 /// The same of a method that was found.
-pub(crate) fn received_at(
+pub fn received_at(
     isolate: &Isolate,
     stack: &Stack,
     thrown: Thrown,
@@ -149,7 +149,7 @@ pub(crate) fn selected_in(
 
 /// The method that is selected for a receiver, by the class of the receiver.
 #[tactic(auto, unfolding(crate::specs::Calls::virtual_selected))]
-pub(crate) fn virtual_selected(
+pub fn virtual_selected(
     isolate: &Isolate,
     method: &MethodAt,
     receiver: u32,

@@ -161,7 +161,7 @@ fn same_method(method: &MethodAt) -> Result<MethodAt, Stop>
 
 /// The method that `invokespecial` selects. A constructor is taken as it was resolved.
 #[tactic(auto, unfolding(crate::specs::Calls::special_method), using(mvm_isolate::proofs::Keeping::grows_same))]
-fn special_method<L: Ledger>(
+pub fn special_method<L: Ledger>(
     isolate: &mut Isolate,
     table: &Table,
     stack: &Stack,

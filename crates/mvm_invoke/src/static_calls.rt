@@ -55,7 +55,7 @@ fn called_static<L: Ledger>(
 
 /// The class of a static method is initialised, and then the method is called.
 #[tactic(auto, using(crate::proofs::Telling::told_grows, crate::proofs::Telling::told_for, mvm_isolate::proofs::Keeping::grows_then, mvm_isolate::proofs::Keeping::grows_same))]
-fn call_static<L: Ledger>(
+pub fn call_static<L: Ledger>(
     isolate: &mut Isolate,
     table: &Table,
     stack: &mut Stack,

@@ -112,7 +112,7 @@ fn may_call(method: &MethodAt, class: &Name, is_static_wanted: bool) -> Result<(
 /// What is thrown for the first fault of the resolution; a `NoSuchMethodError`, an `IncompatibleClassChangeError`, or a `VerifyError` for what linked
 /// code has not.
 #[tactic(auto, unfolding(crate::specs::Calls::call_target))]
-pub(crate) fn call_target<L: Ledger>(
+pub fn call_target<L: Ledger>(
     isolate: &Isolate,
     table: &Table,
     stack: &Stack,

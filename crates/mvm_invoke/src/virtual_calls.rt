@@ -30,7 +30,11 @@ use std::sync::ledger::Ledger;
 
 /// The method of an interface that is selected for a receiver, by the class of the receiver.
 #[tactic(auto, unfolding(crate::specs::Calls::interface_selected))]
-fn interface_selected(isolate: &Isolate, method: &MethodAt, receiver: u32) -> Result<MethodAt, Stop>
+pub fn interface_selected(
+    isolate: &Isolate,
+    method: &MethodAt,
+    receiver: u32,
+) -> Result<MethodAt, Stop>
     ensures ok { IfOk result (λ selected. HasMember selected (interface_selected (look_of isolate.now) method.now receiver (named isolate.now))) }
     ensures err { IfErr result (λ stop. Fails Stop.OutOfMemory stop (interface_selected (look_of isolate.now) method.now receiver (named isolate.now))) }
 {
@@ -44,7 +48,7 @@ fn interface_selected(isolate: &Isolate, method: &MethodAt, receiver: u32) -> Re
 /// # Errors
 ///
 /// An `IncompatibleClassChangeError` where it is.
-fn not_private(method: &MethodAt) -> Result<(), Stop>
+pub fn not_private(method: &MethodAt) -> Result<(), Stop>
     ensures ok { OnOk result ((member : MemberNameOf) → method_named method.now ≡ Some member → not_private (method.now, member) ≡ Ok (method.now, member)) }
     ensures err { IfErr result (λ stop. (member : MemberNameOf) → method_named method.now ≡ Some member → not_private (method.now, member) ≡ Err stop) }
 {

@@ -23,11 +23,13 @@ pub use arrays::{array_length, load_item, store_number};
 pub use constants::load_constant;
 pub use dimensions::make_arrays;
 pub use elements::store_reference;
-pub use fields::{get_field, put_field};
+pub use fields::{PlacedAt, field_popped_at, field_pushed_at, get_field, put_field};
 pub use going::pushing;
 pub use initialised::{Once, begun_by, once_initialised};
 pub use making::{make_numbers, make_references};
-pub use objects::make_object;
+pub use objects::{class_of_objects, make_object, object_pushed};
 pub use state::ThreadState;
-pub use statics::{get_static, put_static};
-pub use types::{check_cast, instance_of, throw_object, top_object};
+pub use statics::{get_static, put_static, static_popped_at, static_pushed_at};
+pub use types::{
+    answers, check_cast, instance_of, is_of_entry, passes, throw_object, top_object, top_reference,
+};

@@ -26,7 +26,11 @@ use mvm_table::{Resolved, Table};
 use std::sync::ledger::Ledger;
 
 /// The class of an entry, which may have objects: it is neither an interface nor abstract.
-fn class_of_objects(found: &Resolved) -> Result<&Class, Stop>
+///
+/// # Errors
+///
+/// An `InstantiationError` where it may not, a `VerifyError` where the entry is no class.
+pub fn class_of_objects(found: &Resolved) -> Result<&Class, Stop>
     ensures { on_ok (λ class. class.now) result ≡ class_of_objects found.now }
 {
     match found {
@@ -44,8 +48,12 @@ fn class_of_objects(found: &Resolved) -> Result<&Class, Stop>
 }
 
 /// A new object of the class of a number is pushed, if a reference fits on the operands. It takes no memory of the machine's own.
+///
+/// # Errors
+///
+/// An `OutOfMemoryError`, or a `VerifyError` where no reference fits.
 #[tactic(auto, unfolding(crate::specs::Objects::object_pushed), using(mvm_current::proofs::Growth::top_grows, mvm_current::proofs::Growth::callers_grow, mvm_isolate::proofs::Keeping::grows_same))]
-fn object_pushed(
+pub fn object_pushed(
     isolate: &mut Isolate,
     stack: &mut Stack,
     mirror: u32,

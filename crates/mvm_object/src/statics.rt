@@ -1,6 +1,6 @@
 //! Static fields (JVM Specification 6.5: getstatic, putstatic).
 
-ghost use Rattle.std.specs.Prelude.{◌≡◌, ◌≢◌, Err, IfErr, IfOk, IsSome, OnErr};
+ghost use Rattle.std.specs.Prelude.{◌≡◌, ◌≢◌, Ok, Err, IfErr, IfOk, IsSome, OnErr};
 ghost use Rattle.mvm_base.specs.Answers.{Gives};
 ghost use Rattle.mvm_base.specs.declared.value.Kind.TheVariants.{Ref};
 ghost use Rattle.mvm_isolate.specs.Members.{is_declared};
@@ -48,6 +48,17 @@ fn slot_at(isolate: &Isolate, member: &MemberName<'_>, mirror: u32) -> Result<u3
         Some(slot) => Ok(slot),
         None => Err(Stop::Throw(Thrown::VerifyError)),
     }
+}
+
+/// Why a field is declared that has a slot.
+#[tactic(auto, unfolding(mvm_isolate::specs::Members::is_declared))]
+fn declared(isolate: &Isolate, member: &MemberName<'_>, mirror: u32, _slot: u32)
+    requires class { IsClass isolate.now mirror }
+    requires name { name_at isolate.now mirror ≡ member.now.class }
+    requires slot { IsSlotOf isolate.now mirror member.now _slot }
+    ensures is { is_declared (look_of isolate.now) member.now ≡ Ok tt }
+{
+    let _class = isolate.class(mirror);
 }
 
 /// Whether a field is `System.out`.
@@ -115,6 +126,38 @@ fn static_value(
     }
 }
 
+/// The value of the static field of a slot, which the class of a number declares, is pushed.
+///
+/// # Errors
+///
+/// A `VerifyError` where it does not fit on the operands.
+#[tactic(auto, unfolding(crate::specs::Fields::static_pushed), using(mvm_current::proofs::Growth::top_grows, mvm_current::proofs::Growth::callers_grow))]
+pub fn static_pushed_at(
+    isolate: &mut Isolate,
+    stack: &mut Stack,
+    member: &MemberName<'_>,
+    mirror: u32,
+    slot: u32,
+    next: u32,
+) -> Result<(), Stop>
+    requires frame { IsSome stack.old.rest.below.key }
+    requires method { RunsMethod stack.old }
+    requires keys { AreKeys isolate.old stack.old }
+    requires class { IsClass isolate.old mirror }
+    requires name { name_at isolate.old mirror ≡ member.now.class }
+    requires slot { IsSlotOf isolate.old mirror member.now slot }
+    ensures does { (c : Context) → c.look ≡ look_of isolate.old → GoesOn result (static_pushed c next member.now (point_of isolate.old stack.old)) isolate.new stack.new c.object }
+    ensures below { stack.new.rest.below ≡ stack.old.rest.below }
+    ensures stack { OnErr result (stack.new ≡ stack.old) }
+    ensures err { OnErr result (named isolate.new ≡ named isolate.old) }
+    ensures links { isolate.new.env.links ≡ isolate.old.env.links }
+    ensures grows { Grows isolate.old isolate.new }
+{
+    declared(isolate, member, mirror, slot);
+    let value = static_value(isolate, stack, member, mirror, slot)?;
+    pushing(stack, value, next)
+}
+
 /// The value of a static field that the class of a number declares is pushed.
 #[tactic(auto, unfolding(crate::specs::Fields::static_pushed), using(mvm_current::proofs::Growth::top_grows, mvm_current::proofs::Growth::callers_grow))]
 fn static_pushed(
@@ -137,8 +180,44 @@ fn static_pushed(
     ensures grows { Grows isolate.old isolate.new }
 {
     let slot = slot_at(isolate, member, mirror)?;
-    let value = static_value(isolate, stack, member, mirror, slot)?;
-    pushing(stack, value, next)
+    static_pushed_at(isolate, stack, member, mirror, slot, next)
+}
+
+/// The value that is popped is that of the static field of a slot, which the class of a number declares. It takes no memory.
+///
+/// # Errors
+///
+/// A `VerifyError` where no value of its kind is on top of the operands.
+#[tactic(auto, unfolding(crate::specs::Fields::static_popped, mvm_current::specs::Keys::callers_named), using(mvm_current::proofs::Growth::top_grows, mvm_current::proofs::Growth::callers_grow, mvm_isolate::proofs::Keeping::grows_same))]
+pub fn static_popped_at(
+    isolate: &mut Isolate,
+    stack: &mut Stack,
+    member: &MemberName<'_>,
+    mirror: u32,
+    slot: u32,
+    next: u32,
+) -> Result<(), Stop>
+    requires frame { IsSome stack.old.rest.below.key }
+    requires method { RunsMethod stack.old }
+    requires keys { AreKeys isolate.old stack.old }
+    requires class { IsClass isolate.old mirror }
+    requires name { name_at isolate.old mirror ≡ member.now.class }
+    requires slot { IsSlotOf isolate.old mirror member.now slot }
+    ensures does { (c : Context) → c.look ≡ look_of isolate.old → GoesOn result (static_popped c next member.now (point_of isolate.old stack.old)) isolate.new stack.new c.object }
+    ensures below { stack.new.rest.below ≡ stack.old.rest.below }
+    ensures rest { OnErr result (stack.new.rest ≡ stack.old.rest) }
+    ensures depth { OnErr result (stack.new.operands.depth ≡ stack.old.operands.depth) }
+    // Where memory ran out the stack is as before.
+    ensures memory { result ≡ Err OutOfMemory → stack.new ≡ stack.old }
+    ensures err { OnErr result (named isolate.new ≡ named isolate.old) }
+    ensures links { isolate.new.env.links ≡ isolate.old.env.links }
+    ensures grows { Grows isolate.old isolate.new }
+{
+    declared(isolate, member, mirror, slot);
+    let value = pop(stack, kind_by(member.desc()))?;
+    isolate.set_static(mirror, slot, member.desc(), value);
+    set_place(stack, next);
+    Ok(())
 }
 
 /// The value that is popped is that of a static field that the class of a number declares. It takes no memory.
@@ -166,10 +245,7 @@ fn static_popped(
     ensures grows { Grows isolate.old isolate.new }
 {
     let slot = slot_at(isolate, member, mirror)?;
-    let value = pop(stack, kind_by(member.desc()))?;
-    isolate.set_static(mirror, slot, member.desc(), value);
-    set_place(stack, next);
-    Ok(())
+    static_popped_at(isolate, stack, member, mirror, slot, next)
 }
 
 /// `getstatic` of a field.

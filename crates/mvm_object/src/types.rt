@@ -31,7 +31,7 @@ use std::sync::ledger::Ledger;
 ///
 /// A `VerifyError` where there is none.
 #[tactic(auto, unfolding(mvm_current::specs::Frames::popped, mvm_frame::specs::Calls::pop))]
-pub(crate) fn top_reference(stack: &Stack) -> Result<Word, Stop>
+pub fn top_reference(stack: &Stack) -> Result<Word, Stop>
     ensures { (n : Numbered) → result ≡ value_of (popped kind.Ref (top_named n stack.now)) }
 {
     if stack.depth() == 0 {
@@ -67,8 +67,12 @@ fn is_of_type<L: Ledger>(
 }
 
 /// Whether an object is an instance of the type of an entry.
+///
+/// # Errors
+///
+/// What is thrown for the first fault of the resolution, or a `VerifyError` where the entry is no type.
 #[tactic(auto, unfolding(crate::specs::Objects::is_of_entry))]
-fn is_of_entry<L: Ledger>(
+pub fn is_of_entry<L: Ledger>(
     isolate: &Isolate,
     table: &Table,
     stack: &Stack,
@@ -86,8 +90,12 @@ fn is_of_entry<L: Ledger>(
 }
 
 /// The reference on top of the operands passes.
+///
+/// # Errors
+///
+/// A `VerifyError` where there is none.
 #[tactic(auto, unfolding(mvm_current::specs::Keys::callers_named))]
-fn passes(stack: &mut Stack, next: u32) -> Result<(), Stop>
+pub fn passes(stack: &mut Stack, next: u32) -> Result<(), Stop>
     requires frame { IsSome stack.old.rest.below.key }
     requires method { RunsMethod stack.old }
     ensures does { (c : Context) (n : Numbered) → GoesOn result (passed c next (point_of n stack.old)) n stack.new c.object }
@@ -146,8 +154,12 @@ fn truth(is: bool) -> Word
 }
 
 /// A truth value stands on the operands in the place of the reference.
+///
+/// # Errors
+///
+/// A `VerifyError` where there is none.
 #[tactic(auto, unfolding(mvm_current::specs::Keys::callers_named))]
-fn answers(stack: &mut Stack, is: bool, next: u32) -> Result<(), Stop>
+pub fn answers(stack: &mut Stack, is: bool, next: u32) -> Result<(), Stop>
     requires frame { IsSome stack.old.rest.below.key }
     requires method { RunsMethod stack.old }
     ensures does { (c : Context) (n : Numbered) → GoesOn result (answered c next is (point_of n stack.old)) n stack.new c.object }
