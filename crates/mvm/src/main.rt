@@ -10,17 +10,31 @@ mod alone;
 mod assembly_rows;
 mod commands;
 #[cfg(test)]
+mod edge_rows;
+#[cfg(test)]
 mod files;
+#[cfg(test)]
+mod initialising_rows;
+#[cfg(test)]
+mod kind_rows;
 mod launch;
+#[cfg(test)]
+mod limit_rows;
 mod outcome;
+#[cfg(test)]
+mod program_rows;
 mod refusal;
 mod report;
+#[cfg(test)]
+mod set_rows;
 mod single;
 #[cfg(test)]
 mod single_rows;
 #[cfg(test)]
 mod tests;
 mod texts;
+#[cfg(test)]
+mod thread_rows;
 mod words;
 #[cfg(test)]
 mod worked_rows;
