@@ -1,1 +1,9 @@
 pub mod Limits
+pub mod Messages
+pub mod Histories
+pub mod Stamps
+pub mod Links
+pub mod Merged
+pub mod Texts
+pub mod Rows
+pub mod Laws

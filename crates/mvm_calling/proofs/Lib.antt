@@ -1,0 +1,6 @@
+pub mod Arguing
+pub mod Known
+pub mod Roomy
+pub mod Selecting
+pub mod InterfaceSelecting
+pub mod SpecialSelecting

@@ -1,0 +1,4 @@
+pub mod KeptCalls
+pub mod KeptVirtual
+pub mod KeptInterface
+pub mod KeptSpecial

@@ -1,0 +1,9 @@
+pub mod Lasts
+pub mod Adding
+pub mod OneOrder
+pub mod Inserting
+pub mod Rowwise
+pub mod OneIsolate
+pub mod Stamping
+pub mod Linking
+pub mod Exchanging

@@ -1,0 +1,7 @@
+use Rattle.std.proofs.Common.{sym}
+use Rattle.mvm_kept.proofs.Growing.{number_kept}
+use Rattle.mvm_kept.proofs.constants.keep_number.Goals as goal
+
+pub returns-in-Some : goal.returns-in-Some
+returns-in-Some c =
+    c.keep.ensures c.args.isolate.now c.requires.kept (number_kept c.args.isolate.now c.args.stack.now c.in-Some.key c.args.index c.args.word (sym c.in-Some.ensures) c.requires.method c.requires.keys c.requires.number)

@@ -1,0 +1,22 @@
+use Rattle.std.proofs.Common.{◌∙◌}
+use Rattle.mvm_isolate.proofs.Keeping.{grows_then}
+use Rattle.mvm_current.proofs.Growth.{keys_grow}
+use Rattle.mvm_object.specs.Fields.{get_field}
+use Rattle.mvm_object.proofs.Points.{goes_at, look_grows}
+use Rattle.mvm_kept.proofs.Growing.{kept_grows}
+use Rattle.mvm_kept.proofs.fields.get_field.Goals as goal
+
+pub get_by-requires-clause-keys : goal.get_by-requires-clause-keys
+get_by-requires-clause-keys g c = keys_grow c.args.isolate.now c.look_up.new.isolate c.args.stack.now c.look_up.ensures.grows c.requires.keys
+
+pub returns-clause-does : goal.returns-clause-does
+returns-clause-does g c = λ context look.
+    goes_at (get_field context c.args.index c.args.next) c.get_by.result c.args.isolate.now c.look_up.new.isolate c.get_by.new.isolate c.args.stack.now c.get_by.new.stack context.object
+    c.look_up.ensures.grows c.requires.keys c.look_up.ensures.same
+    (c.get_by.ensures.does context (look ∙ look_grows c.args.isolate.now c.look_up.new.isolate c.look_up.ensures.grows))
+
+pub returns-clause-kept : goal.returns-clause-kept
+returns-clause-kept g c = kept_grows c.look_up.new.isolate c.get_by.new.isolate c.look_up.new.kept c.get_by.ensures.grows c.look_up.ensures.kept
+
+pub returns-clause-grows : goal.returns-clause-grows
+returns-clause-grows g c = grows_then c.args.isolate.now c.look_up.new.isolate c.get_by.new.isolate c.look_up.ensures.grows c.get_by.ensures.grows

@@ -1,0 +1,6 @@
+use Rattle.mvm_object.proofs.Points.{keys_after}
+use Rattle.mvm_kept.proofs.objects.make_by.Goals as goal
+
+pub returns-then-goes-clause-keys : goal.returns-then-goes-clause-keys
+returns-then-goes-clause-keys g c =
+    keys_after c.args.isolate.now c.make_kept.new.isolate c.args.stack.now c.make_kept.new.stack c.make_kept.ensures.grows c.make_kept.ensures.below c.requires.keys
